@@ -1,0 +1,11 @@
+use Rattle.std.proofs.Common.{ℤ, ap, arith}
+use Rattle.col_types.specs.Column.{row_count}
+use Rattle.col_array.specs.Parts.{PrimitiveParts, column_of}
+use Rattle.col_array.proofs.PartsLemmas.{length-stored_cells}
+use Rattle.col_array.proofs.primitive.PrimitiveArray+i64.len.Goals as goal
+
+pub returns : goal.returns
+returns c =
+    let cells = length-stored_cells c.self.inside.validity.items c.self.inside.values.items c.self.invariant in
+    let seen = ap (λ (p : PrimitiveParts ℤ). row_count (column_of p)) c.self.view_is in
+    omega arith

@@ -1,0 +1,171 @@
+//! Arrays of numbers of one native type.
+ghost use Rattle.std.specs.Prelude.{◌≡◌, ◌≢◌, ◌<◌, ◌↔◌, IsTrue, IfOk, Some, count_by, map, not, replicate, slice_get};
+ghost use Rattle.col_model.specs.Cell.{null};
+ghost use Rattle.col_types.specs.Answer.{FailsByMemory};
+ghost use Rattle.col_types.specs.Column.{row_count};
+ghost use Rattle.col_array.specs.Parts.{column_of, cell_of, null_count_of};
+
+use col_types::{DataType, Error, NativeType};
+use std::alloc::Global;
+use std::marker::Model;
+
+/// A column of numbers: a slot for each row, null or a number of the native type.
+///
+/// Source: the Arrow columnar format, "Fixed-size primitive layout".
+#[derive(Drop)]
+pub struct PrimitiveArray<T: NativeType> {
+    data_type: DataType,
+    values: Vec<T>,
+    validity: Vec<bool>,
+}
+
+impl<T: NativeType> Model for PrimitiveArray<T> {
+    ghost use Rattle.std.specs.Prelude.{◌≡◌, length};
+    ghost use Rattle.col_array.specs.Parts.{PrimitiveParts};
+
+    ghost Value = { PrimitiveParts T };
+
+    ghost view = { λ a. record { data_type = a.data_type; values = a.values.items; validity = a.validity.items } };
+
+    ghost invariant = { λ a. length a.validity.items ≡ length a.values.items };
+}
+
+impl PrimitiveArray<i64> {
+    /// An array of the slots, in their order.
+    pub fn from_options(
+        alloc: Global,
+        data_type: DataType,
+        slots: &[Option<i64>],
+    ) -> Result<PrimitiveArray<i64>, Error>
+        ensures value { IfOk result (λ array. column_of array
+            ≡ record { data_type = data_type; cells = map cell_of slots.now }) }
+        ensures refused { FailsByMemory result }
+    {
+        let mut values = Vec::with_capacity(alloc, slots.len())?;
+        let mut validity = Vec::with_capacity(alloc, slots.len())?;
+        for slot in slots {
+            values.push(slot.unwrap_or(0))?;
+            validity.push(slot.is_some())?;
+        }
+        Ok(PrimitiveArray {
+            data_type,
+            values,
+            validity,
+        })
+    }
+
+    /// An array of null slots.
+    pub fn new_null(
+        alloc: Global,
+        data_type: DataType,
+        length: usize,
+    ) -> Result<PrimitiveArray<i64>, Error>
+        ensures value { IfOk result (λ array. column_of array
+            ≡ record { data_type = data_type; cells = replicate length null }) }
+        ensures refused { FailsByMemory result }
+    {
+        let values = vec![in alloc; 0; length]?;
+        let validity = vec![in alloc; false; length]?;
+        Ok(PrimitiveArray {
+            data_type,
+            values,
+            validity,
+        })
+    }
+
+    /// The number of slots.
+    pub fn len(&self) -> usize
+        ensures { result ≡ row_count (column_of self.now) }
+    {
+        self.values.len()
+    }
+
+    /// The slot at a row: its number, or `None` where it is null.
+    pub fn get(&self, i: usize) -> Option<i64>
+        requires { i < row_count (column_of self.now) }
+        ensures { slice_get (column_of self.now).cells i ≡ Some (cell_of result) }
+    {
+        if self.validity[i] {
+            Some(self.values[i])
+        } else {
+            None
+        }
+    }
+
+    /// Whether the slot at a row is not null.
+    pub fn is_valid(&self, i: usize) -> bool
+        requires { i < row_count (column_of self.now) }
+        ensures { IsTrue result ↔ (slice_get (column_of self.now).cells i ≢ Some null) }
+    {
+        self.validity[i]
+    }
+
+    /// How many slots are null.
+    pub fn null_count(&self) -> usize
+        ensures { result ≡ null_count_of (column_of self.now).cells }
+    {
+        unset_count(self.validity.as_slice())
+    }
+
+    /// The array's type.
+    pub fn data_type(&self) -> &DataType
+        ensures { result.now ≡ (column_of self.now).data_type }
+    {
+        &self.data_type
+    }
+
+    /// An array with equal type and slots.
+    pub fn try_clone(&self, alloc: Global) -> Result<PrimitiveArray<i64>, Error>
+        ensures value { IfOk result (λ copy. column_of copy ≡ column_of self.now) }
+        ensures refused { FailsByMemory result }
+    {
+        let data_type = self.data_type.try_clone(alloc)?;
+        let values = Vec::from_slice(alloc, self.values.as_slice())?;
+        let validity = Vec::from_slice(alloc, self.validity.as_slice())?;
+        Ok(PrimitiveArray {
+            data_type,
+            values,
+            validity,
+        })
+    }
+
+    /// Whether types and slots are equal.
+    pub fn equal(&self, other: &PrimitiveArray<i64>) -> bool
+        ensures { IsTrue result ↔ (column_of self.now ≡ column_of other.now) }
+    {
+        self.data_type.equal(&other.data_type)
+            && self.len() == other.len()
+            && self.has_slots_of(other)
+    }
+
+    // Whether the slots are equal, row by row, of two arrays of one length.
+    fn has_slots_of(&self, other: &PrimitiveArray<i64>) -> bool
+        requires { row_count (column_of self.now) ≡ row_count (column_of other.now) }
+        ensures { IsTrue result ↔ ((column_of self.now).cells ≡ (column_of other.now).cells) }
+    {
+        for i in 0..self.len() {
+            if !is_same(self.get(i), other.get(i)) {
+                return false;
+            }
+        }
+        true
+    }
+}
+
+// How many flags are false.
+fn unset_count(flags: &[bool]) -> usize
+    ensures { result ≡ count_by not flags.now }
+{
+    flags.iter().filter(|valid| !**valid).count()
+}
+
+// Whether two slots are equal.
+fn is_same(lhs: Option<i64>, rhs: Option<i64>) -> bool
+    ensures { IsTrue result ↔ (cell_of lhs ≡ cell_of rhs) }
+{
+    match (lhs, rhs) {
+        (Some(a), Some(b)) => a == b,
+        (None, None) => true,
+        _ => false,
+    }
+}

@@ -1,0 +1,67 @@
+//! What no clause shows: that calls succeed, on slots whose reading is known.
+use crate::{AnyArray, AnyScalar, PrimitiveArray, PrimitiveScalar};
+use col_types::{DataType, Error};
+use std::alloc::Global;
+
+fn array_of(alloc: Global, slots: &[Option<i64>]) -> Result<PrimitiveArray<i64>, Error> {
+    PrimitiveArray::from_options(alloc, DataType::Int64, slots)
+}
+
+#[test]
+fn slots_read_back(rt: HostRuntime) -> Result<(), Error> {
+    let slots = [Some(7), None, Some(i64::MIN), Some(i64::MAX), None];
+    let array = array_of(rt.alloc(), &slots)?;
+    assert_eq!(rt; array.len(), 5);
+    assert_eq!(rt; array.null_count(), 2);
+    assert!(rt; array.data_type().equal(&DataType::Int64));
+    for (i, slot) in slots.iter().enumerate() {
+        if i < array.len() {
+            assert_eq!(rt; array.get(i), *slot, "row {i}");
+            assert_eq!(rt; array.is_valid(i), slot.is_some(), "row {i}");
+        }
+    }
+    Ok(())
+}
+
+#[test]
+fn arrays_are_equal_where_their_slots_are(rt: HostRuntime) -> Result<(), Error> {
+    let alloc = rt.alloc();
+    let array = AnyArray::from(array_of(alloc, &[Some(1), None])?);
+    let copy = array.try_clone(alloc)?;
+    assert!(rt; array.equal(&copy));
+    let others = [
+        array_of(alloc, &[])?,
+        array_of(alloc, &[Some(1)])?,
+        array_of(alloc, &[Some(1), Some(0)])?,
+        array_of(alloc, &[None, None])?,
+        array_of(alloc, &[Some(2), None])?,
+        array_of(alloc, &[Some(1), None, None])?,
+    ];
+    for other in others {
+        let length = other.len();
+        assert!(rt; !array.equal(&AnyArray::from(other)), "length {length}");
+    }
+    Ok(())
+}
+
+#[test]
+fn each_call_answers_with_ample_memory(rt: HostRuntime) -> Result<(), Error> {
+    let alloc = rt.alloc();
+    let nulls = PrimitiveArray::<i64>::new_null(alloc, DataType::Int64, 3)?;
+    assert_eq!(rt; nulls.null_count(), 3);
+    assert!(rt; nulls.try_clone(alloc)?.equal(&nulls));
+    let any = AnyArray::new_null(alloc, DataType::Int64, 3)?;
+    assert_eq!(rt; any.len(), 3);
+    assert_eq!(rt; any.null_count(), 3);
+    assert!(rt; any.data_type().equal(&DataType::Int64));
+    assert!(rt; any.equal(&AnyArray::from(nulls)));
+    for value in [Some(5), None] {
+        let scalar = AnyScalar::Int64(PrimitiveScalar::new(DataType::Int64, value)?);
+        assert_eq!(rt; scalar.is_valid(), value.is_some(), "{value:?}");
+        assert!(rt; scalar.data_type().equal(&DataType::Int64));
+        assert!(rt; scalar.try_clone(alloc)?.equal(&scalar), "{value:?}");
+        let other = AnyScalar::Int64(PrimitiveScalar::new(DataType::Int64, Some(6))?);
+        assert!(rt; !other.equal(&scalar), "{value:?}");
+    }
+    Ok(())
+}
