@@ -1,0 +1,2 @@
+pub mod EachRowLemmas
+pub mod OverflowLemmas

@@ -1,0 +1,7 @@
+pub use Rattle.col_model.specs.Cell
+pub use Rattle.col_model.specs.Whole
+pub use Rattle.col_model.specs.WholeStep
+pub use Rattle.col_types.specs.Answer
+pub use Rattle.col_types.specs.Column
+pub use Rattle.col_array.specs.Parts
+pub mod Forms

@@ -1,0 +1,2 @@
+//! Arithmetic on whole numbers, one file for each operation.
+pub mod add;
