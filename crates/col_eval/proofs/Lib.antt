@@ -1,0 +1,5 @@
+pub mod GatherLemmas
+pub mod OperandLemmas
+pub mod RefusalLemmas
+pub mod RowLemmas
+pub mod TreeLemmas

@@ -1,0 +1,10 @@
+pub use Rattle.col_model.specs.Cell
+pub use Rattle.col_types.specs.Answer
+pub use Rattle.col_types.specs.Column
+pub use Rattle.col_array.specs.Any
+pub mod Tree
+pub mod Entries
+pub mod Typing
+pub mod Meaning
+pub mod Operand
+pub mod Laws

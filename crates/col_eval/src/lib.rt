@@ -1,0 +1,15 @@
+//! Tables, trees of steps over their columns, and what a tree gives for a table.
+#![tactic(auto)]
+
+mod evaluation;
+mod expr;
+pub mod laws;
+mod table;
+#[cfg(test)]
+mod tests;
+mod typing;
+
+pub use evaluation::evaluate;
+pub use expr::{Expr, Op};
+pub use table::Table;
+pub use typing::typed_of;

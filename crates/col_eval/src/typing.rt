@@ -1,0 +1,75 @@
+//! The type of a tree over a table.
+ghost use Rattle.std.specs.Prelude.{◌≡◌, ◌≤◌, ◌↔◌, IsTrue};
+ghost use Rattle.col_types.specs.Answer.{Answers};
+ghost use Rattle.col_types.specs.Column.{types_of};
+ghost use Rattle.col_eval.specs.Entries.{entry_of};
+ghost use Rattle.col_eval.specs.Tree.{level_count, tree_of};
+ghost use Rattle.col_eval.specs.Typing.{type_of, typing_of};
+
+use crate::expr::{Expr, Op};
+use crate::table::Table;
+use col_types::{DataType, Error, Reason};
+use std::alloc::Global;
+
+const MAX_LEVELS: usize = 256;
+
+/// The type of a tree over the types of the table's columns. Rows are not looked at.
+///
+/// Refused, in this order: `Depth` where the tree has more than 256 levels; then, left operand
+/// first, operands before their step: `Position` where the table has no such column;
+/// `NotYetImplemented` where a literal is no right operand of a step.
+pub fn typed_of(alloc: Global, table: &Table, tree: &Expr) -> Result<DataType, Error>
+    ensures answer { Answers (λ t. t) result (typing_of (tree_of tree.now) (types_of table.now)) }
+{
+    if !is_within(tree, MAX_LEVELS) {
+        return Err(Error::InvalidArgumentError(Reason::Depth));
+    }
+    type_within(alloc, table, tree)
+}
+
+// Whether a tree has at most so many levels.
+fn is_within(tree: &Expr, levels: usize) -> bool
+    ensures { IsTrue result ↔ (level_count (tree_of tree.now) ≤ levels) }
+{
+    if levels == 0 {
+        return false;
+    }
+    match tree {
+        Expr::Column(_) | Expr::Literal(_) => true,
+        Expr::Step(_, lhs, rhs) => is_within(lhs, levels - 1) && is_within(rhs, levels - 1),
+    }
+}
+
+// The type of a tree, however many levels it has.
+fn type_within(alloc: Global, table: &Table, tree: &Expr) -> Result<DataType, Error>
+    ensures { Answers (λ t. t) result (type_of (tree_of tree.now) (types_of table.now)) }
+{
+    match tree {
+        Expr::Column(position) => {
+            let i = *position as usize;
+            if i < table.width() {
+                table.column(i).data_type().try_clone(alloc)
+            } else {
+                Err(Error::InvalidArgumentError(Reason::Position))
+            }
+        }
+        Expr::Literal(_) => Err(Error::NotYetImplemented),
+        Expr::Step(op, lhs, rhs) => {
+            let lhs_type = type_within(alloc, table, lhs)?;
+            let rhs_type = match &**rhs {
+                Expr::Literal(scalar) => scalar.data_type().try_clone(alloc)?,
+                rhs => type_within(alloc, table, rhs)?,
+            };
+            entry(*op, &lhs_type, &rhs_type)
+        }
+    }
+}
+
+// The type that a step gives for the types of its operands.
+fn entry(_op: Op, lhs: &DataType, rhs: &DataType) -> Result<DataType, Error>
+    ensures { result ≡ entry_of _op lhs.now rhs.now }
+{
+    match (lhs, rhs) {
+        (DataType::Int64, DataType::Int64) => Ok(DataType::Int64),
+    }
+}
