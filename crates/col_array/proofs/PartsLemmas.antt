@@ -1,5 +1,5 @@
 -- Facts on the cells that stored numbers and flags stand for.
-use Rattle.std.proofs.Common.{◌≡◌, ℕ, ◌+◌, ◌<◌, suc, zero, Bool, true, false, List, [], ◌∷◌, ◌++◌, length, get_or, replicate, is_some, unwrap_or, not, count_by, add-one, cond, slice_get, ◌↔◌, ◌≢◌, IsTrue, pos, take, Option, Some, None, ℤ, refl, ap, sym, ◌∙◌, arith}
+use Rattle.std.proofs.Common.{map, ◌≡◌, ℕ, ◌+◌, ◌<◌, suc, zero, Bool, true, false, List, [], ◌∷◌, ◌++◌, length, get_or, replicate, is_some, unwrap_or, not, count_by, add-one, cond, slice_get, ◌↔◌, ◌≢◌, IsTrue, pos, take, Option, Some, None, ℤ, refl, ap, sym, ◌∙◌, arith}
 use Rattle.std.proofs.lemmas.List.Recursion.{is_count_by}
 use Rattle.col_model.specs.Cell.{Cell, null, whole}
 use Rattle.col_array.specs.Parts.{stored_cell, stored_cells, cell_of, null_count_of}
@@ -76,3 +76,9 @@ unset_flags-null_count (false ∷ flags) (n ∷ values) h = ap (λ (k : ℕ). 1 
 -- as many false flags as nulls
 pub count_by-null_count : (flags : List Bool) (values : List ℤ) → length flags ≡ length values → count_by not flags ≡ null_count_of (stored_cells flags values)
 count_by-null_count flags values h = sym (is_count_by unset_flags not refl (λ _ _. refl) flags) ∙ unset_flags-null_count flags values h
+
+-- flags and numbers made from slots stand for those slots
+pub stored_cells-slots : (slots : List (Option ℤ)) → stored_cells (map is_some slots) (map (λ slot. unwrap_or slot (pos 0)) slots) ≡ map cell_of slots
+stored_cells-slots [] = refl
+stored_cells-slots (None ∷ slots) = ap (λ (cells : List Cell). null ∷ cells) (stored_cells-slots slots)
+stored_cells-slots (Some n ∷ slots) = ap (λ (cells : List Cell). whole n ∷ cells) (stored_cells-slots slots)

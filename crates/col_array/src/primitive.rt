@@ -1,12 +1,12 @@
 //! Arrays of numbers of one native type.
-ghost use Rattle.std.specs.Prelude.{◌≡◌, ◌≢◌, ◌<◌, ◌↔◌, IsTrue, IfOk, Some, count_by, map, not, replicate, slice_get};
+ghost use Rattle.std.specs.Prelude.{◌≡◌, ◌≢◌, ◌<◌, ◌↔◌, IsTrue, Err, IfErr, IfOk, Some, vec_len, count_by, is_some, map, not, pos, replicate, slice_get, unwrap_or};
 ghost use Rattle.col_model.specs.Cell.{null};
 ghost use Rattle.col_types.specs.Answer.{FailsByMemory};
 ghost use Rattle.col_types.specs.Column.{row_count};
 ghost use Rattle.col_array.specs.Parts.{column_of, cell_of, null_count_of};
 
 use col_types::{DataType, Error, NativeType};
-use std::alloc::Global;
+use std::alloc::{AllocError, Global};
 use std::marker::Model;
 
 /// A column of numbers: a slot for each row, null or a number of the native type.
@@ -31,6 +31,32 @@ impl<T: NativeType> Model for PrimitiveArray<T> {
 }
 
 impl PrimitiveArray<i64> {
+    /// An array of stored numbers, beside a flag for each that tells whether its slot is valid.
+    ///
+    /// Refused: `OutOfSpec` where there are not as many flags as numbers.
+    pub fn try_new(
+        data_type: DataType,
+        values: Vec<i64>,
+        validity: Vec<bool>,
+    ) -> Result<PrimitiveArray<i64>, Error>
+        ensures value { IfOk result (λ array. array ≡ record {
+          data_type = data_type;
+          values = values.items;
+          validity = validity.items;
+        }) }
+        ensures parts { (result ≡ Err Error.OutOfSpec) ↔ (vec_len values ≢ vec_len validity) }
+        ensures refused { IfErr result (λ e. e ≡ Error.OutOfSpec) }
+    {
+        if values.len() != validity.len() {
+            return Err(Error::OutOfSpec);
+        }
+        Ok(PrimitiveArray {
+            data_type,
+            values,
+            validity,
+        })
+    }
+
     /// An array of the slots, in their order.
     pub fn from_options(
         alloc: Global,
@@ -41,12 +67,8 @@ impl PrimitiveArray<i64> {
             ≡ record { data_type = data_type; cells = map cell_of slots.now }) }
         ensures refused { FailsByMemory result }
     {
-        let mut values = Vec::with_capacity(alloc, slots.len())?;
-        let mut validity = Vec::with_capacity(alloc, slots.len())?;
-        for slot in slots {
-            values.push(slot.unwrap_or(0))?;
-            validity.push(slot.is_some())?;
-        }
+        let values = stored_values(alloc, slots)?;
+        let validity = flags_of(alloc, slots)?;
         Ok(PrimitiveArray {
             data_type,
             values,
@@ -150,6 +172,20 @@ impl PrimitiveArray<i64> {
         }
         true
     }
+}
+
+// The numbers that slots are stored as: 0 beneath a null.
+fn stored_values(alloc: Global, slots: &[Option<i64>]) -> Result<Vec<i64>, AllocError>
+    ensures { IfOk result (λ values. values.items ≡ map (λ slot. unwrap_or slot (pos 0)) slots.now) }
+{
+    slots.iter().map(|slot| slot.unwrap_or(0)).collect(alloc)
+}
+
+// Whether each slot is valid.
+fn flags_of(alloc: Global, slots: &[Option<i64>]) -> Result<Vec<bool>, AllocError>
+    ensures { IfOk result (λ flags. flags.items ≡ map is_some slots.now) }
+{
+    slots.iter().map(|slot| slot.is_some()).collect(alloc)
 }
 
 // How many flags are false.

@@ -65,3 +65,21 @@ fn each_call_answers_with_ample_memory(rt: HostRuntime) -> Result<(), Error> {
     }
     Ok(())
 }
+
+#[test]
+fn an_array_has_a_flag_for_each_number(rt: HostRuntime) -> Result<(), Error> {
+    let alloc = rt.alloc();
+    let wanted = array_of(alloc, &[Some(7), None])?;
+    for count in 0..4 {
+        let values = vec![in alloc; 7i64; 2]?;
+        let mut validity = Vec::new(alloc);
+        for place in 0..count {
+            validity.push(place == 0)?;
+        }
+        match PrimitiveArray::try_new(DataType::Int64, values, validity) {
+            Ok(array) => assert!(rt; count == 2 && array.equal(&wanted), "{count} flags"),
+            Err(e) => assert!(rt; count != 2 && e == Error::OutOfSpec, "{count} flags"),
+        }
+    }
+    Ok(())
+}
