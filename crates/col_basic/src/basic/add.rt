@@ -1,5 +1,5 @@
 //! Sums, row by row.
-ghost use Rattle.std.specs.Prelude.{◌≡◌, ◌≢◌, map, replicate};
+ghost use Rattle.std.specs.Prelude.{◌≡◌, ◌≢◌, IfOk, replicate, vec_len};
 ghost use Rattle.std.specs.Int.{w64};
 ghost use Rattle.col_model.specs.Cell.{whole};
 ghost use Rattle.col_model.specs.Whole.{signed};
@@ -7,7 +7,7 @@ ghost use Rattle.col_model.specs.WholeStep.{addition, plain, checked, whole_step
 ghost use Rattle.col_types.specs.Answer.{Answers, RefusedWhere, as_errors};
 ghost use Rattle.col_types.specs.Column.{kernel_answer, row_count, scalar_answer};
 ghost use Rattle.col_types.specs.declared.error.Reason.TheVariants.{Lengths};
-ghost use Rattle.col_array.specs.Parts.{column_of, cell_of};
+ghost use Rattle.col_array.specs.Parts.{column_of, cell_of, stored_cells};
 ghost use Rattle.col_basic.specs.Forms.{form_of};
 
 use col_array::PrimitiveArray;
@@ -100,9 +100,9 @@ fn added(
     if lhs.len() != rhs.len() {
         return Err(Error::InvalidArgumentError(Reason::Lengths));
     }
-    let slots = sums(alloc, lhs, rhs, form)?;
+    let (values, validity) = sums(alloc, lhs, rhs, form)?;
     let data_type = lhs.data_type().try_clone(alloc)?;
-    PrimitiveArray::from_options(alloc, data_type, slots.as_slice())
+    PrimitiveArray::try_new(data_type, values, validity)
 }
 
 // The sums of each slot and one slot.
@@ -115,46 +115,54 @@ fn added_slot(
     ensures answer { Answers column_of result
         (scalar_answer (whole_step addition (form_of form) (signed w64)) (column_of lhs.now) (cell_of rhs)) }
 {
-    let slots = slot_sums(alloc, lhs, rhs, form)?;
+    let (values, validity) = slot_sums(alloc, lhs, rhs, form)?;
     let data_type = lhs.data_type().try_clone(alloc)?;
-    PrimitiveArray::from_options(alloc, data_type, slots.as_slice())
+    PrimitiveArray::try_new(data_type, values, validity)
 }
 
-// The slots of the sums of two arrays of one length.
+// The sums of two arrays of one length, as stored numbers and flags.
 fn sums(
     alloc: Global,
     lhs: &PrimitiveArray<i64>,
     rhs: &PrimitiveArray<i64>,
     form: OnOverflow,
-) -> Result<Vec<Option<i64>>, Error>
+) -> Result<(Vec<i64>, Vec<bool>), Error>
     requires { row_count (column_of lhs.now) ≡ row_count (column_of rhs.now) }
-    ensures answer { Answers (λ slots. map cell_of slots.items) result
+    ensures answer { Answers (λ parts. stored_cells parts.1.items parts.0.items) result
         (as_errors (each_row (whole_step addition (form_of form) (signed w64))
         (column_of lhs.now).cells (column_of rhs.now).cells)) }
+    ensures one_length { IfOk result (λ parts. vec_len parts.0 ≡ vec_len parts.1) }
 {
-    let mut slots = Vec::with_capacity(alloc, lhs.len())?;
+    let mut values = Vec::with_capacity(alloc, lhs.len())?;
+    let mut validity = Vec::with_capacity(alloc, lhs.len())?;
     for row in 0..lhs.len() {
-        slots.push(sum_slot(lhs.get(row), rhs.get(row), form)?)?;
+        let sum = sum_slot(lhs.get(row), rhs.get(row), form)?;
+        values.push(sum.unwrap_or(0))?;
+        validity.push(sum.is_some())?;
     }
-    Ok(slots)
+    Ok((values, validity))
 }
 
-// The slots of the sums of an array's slots and one slot.
+// The sums of an array's slots and one slot, as stored numbers and flags.
 fn slot_sums(
     alloc: Global,
     lhs: &PrimitiveArray<i64>,
     rhs: Option<i64>,
     form: OnOverflow,
-) -> Result<Vec<Option<i64>>, Error>
-    ensures answer { Answers (λ slots. map cell_of slots.items) result
+) -> Result<(Vec<i64>, Vec<bool>), Error>
+    ensures answer { Answers (λ parts. stored_cells parts.1.items parts.0.items) result
         (as_errors (each_row (whole_step addition (form_of form) (signed w64))
         (column_of lhs.now).cells (replicate (row_count (column_of lhs.now)) (cell_of rhs)))) }
+    ensures one_length { IfOk result (λ parts. vec_len parts.0 ≡ vec_len parts.1) }
 {
-    let mut slots = Vec::with_capacity(alloc, lhs.len())?;
+    let mut values = Vec::with_capacity(alloc, lhs.len())?;
+    let mut validity = Vec::with_capacity(alloc, lhs.len())?;
     for row in 0..lhs.len() {
-        slots.push(sum_slot(lhs.get(row), rhs, form)?)?;
+        let sum = sum_slot(lhs.get(row), rhs, form)?;
+        values.push(sum.unwrap_or(0))?;
+        validity.push(sum.is_some())?;
     }
-    Ok(slots)
+    Ok((values, validity))
 }
 
 // The sum of two slots; null beside a null.
