@@ -1,0 +1,10 @@
+pub mod Leaves
+pub mod Lists
+pub mod Moves
+pub mod NumberTexts
+pub mod PageLemmas
+pub mod PositionNames
+pub mod Readings
+pub mod RunLemmas
+pub mod Spelling
+pub mod StoredCells

@@ -1,0 +1,12 @@
+use Rattle.std.proofs.Common.{◌≡◌, drop, map}
+use Rattle.serde_json.specs.View.{items_view}
+use Rattle.col_array.specs.Any.{any_column}
+use Rattle.col_tool.specs.Document.{column_read}
+use Rattle.col_tool.specs.Json.{each}
+use Rattle.col_tool.proofs.Lists.{front}
+use Rattle.col_tool.proofs.cells.read_columns.Given as goal
+
+abbrev pub invariant-loop-value : goal.invariant-loop-value
+invariant-loop-value l =
+    front (map any_column l.columns.items) (each column_read (items_view (drop l.value-index l.values)))
+    ≡ each column_read (items_view l.values)

@@ -1,0 +1,18 @@
+use Rattle.std.proofs.Common.{rules, arith}
+use Rattle.std.proofs.lemmas.Grind.{common_steps}
+use Rattle.std.proofs.lemmas.Int.{to_z-of_z}
+use Rattle.std.specs.Int.{w64}
+use mir.Val.{SFits}
+use Rattle.col_tool.specs.Document.{cell_read}
+use Rattle.col_tool.proofs.StoredCells.{stored-next}
+use Rattle.col_tool.proofs.cells.read_stored.Goals as goal
+
+pub loop-value-preserved : goal.loop-value-preserved
+loop-value-preserved c =
+    let fits : SFits w64 c.unwrap_or.result = search rules in
+    record {
+      one_length = grind (arith, common_steps);
+      done =
+          rw (c.in_ok-push-2.ensures.items, c.in_ok-push.ensures.items, to_z-of_z w64 c.unwrap_or.result fits, c.unwrap_or.ensures, c.is_some.ensures)
+          (stored-next (cell_read c.args.data_type.now) c.args.values.now c.loop-value.value-index c.value-item.result c.loop-value.validity.items c.loop-value.numbers.items c.in-Some.slot c.loop-value.invariant.one_length (omega arith) c.value-item.is c.in-Some.ensures c.loop-value.invariant.done);
+    }

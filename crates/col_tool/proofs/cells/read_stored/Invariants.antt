@@ -1,0 +1,15 @@
+use Rattle.std.proofs.Common.{◌≡◌, drop, length}
+use Rattle.serde_json.specs.View.{items_view}
+use Rattle.col_array.specs.Parts.{stored_cells}
+use Rattle.col_tool.specs.Document.{cell_read}
+use Rattle.col_tool.specs.Json.{each}
+use Rattle.col_tool.proofs.Lists.{front}
+use Rattle.col_tool.proofs.cells.read_stored.Given as goal
+
+abbrev pub invariant-loop-value : goal.invariant-loop-value
+invariant-loop-value l = record {
+  one_length : length l.validity.items ≡ length l.numbers.items;
+  done :
+      front (stored_cells l.validity.items l.numbers.items) (each (cell_read l.data_type) (items_view (drop l.value-index l.values)))
+      ≡ each (cell_read l.data_type) (items_view l.values);
+}

@@ -1,0 +1,11 @@
+pub mod Document
+pub mod Faults
+pub mod Json
+pub mod Laws
+pub mod Page
+pub mod PageView
+pub mod Reading
+pub mod Run
+pub mod SinkState
+pub mod Status
+pub mod View
