@@ -14,6 +14,7 @@ use col_array::{AnyArray, PrimitiveArray};
 use col_types::DataType;
 use serde_json::Value;
 use std::alloc::Global;
+use std::mem;
 
 /// The items of the list that a member holds.
 pub fn list_at<'v>(value: &'v Value, name: &str) -> Option<&'v [Value]>
@@ -26,6 +27,17 @@ pub fn list_at<'v>(value: &'v Value, name: &str) -> Option<&'v [Value]>
             None => None,
         },
         None => None,
+    }
+}
+
+/// The items of the list that a member holds, taken out of it.
+pub fn take_list(alloc: Global, value: &mut Value, name: &str) -> Option<Vec<Value>>
+    ensures { option_map (λ v. items_view v.items) result
+        ≡ option_and_then as_array (get name.now (view value.old)) }
+{
+    match value.get_mut(name) {
+        Some(Value::Array(list)) => Some(mem::replace(list, Vec::new(alloc))),
+        _ => None,
     }
 }
 
@@ -54,13 +66,13 @@ pub fn read_slot(data_type: &DataType, value: &Value) -> Option<Option<i64>>
 /// A column: an object with a type, and a list of cells of that type.
 ///
 /// Refused: `Malformed` where the value is none.
-pub fn read_column(alloc: Global, value: &Value) -> Result<AnyArray, ReadError>
-    ensures { Reads any_column result (column_read (view value.now)) }
+pub fn read_column(alloc: Global, mut value: Value) -> Result<AnyArray, ReadError>
+    ensures { Reads any_column result (column_read (view value)) }
 {
-    let Some(data_type) = read_type(value) else {
+    let Some(data_type) = read_type(&value) else {
         return Err(ReadError::Malformed);
     };
-    let Some(values) = list_at(value, "values") else {
+    let Some(values) = take_list(alloc, &mut value, "values") else {
         return Err(ReadError::Malformed);
     };
     let (numbers, validity) = read_stored(alloc, &data_type, values)?;
@@ -73,9 +85,9 @@ pub fn read_column(alloc: Global, value: &Value) -> Result<AnyArray, ReadError>
 /// The columns of a list, in its order.
 ///
 /// Refused: `Malformed` where an item is no column.
-pub fn read_columns(alloc: Global, values: &[Value]) -> Result<Vec<AnyArray>, ReadError>
+pub fn read_columns(alloc: Global, values: Vec<Value>) -> Result<Vec<AnyArray>, ReadError>
     ensures { Reads (λ v. map any_column v.items) result
-        (each column_read (items_view values.now)) }
+        (each column_read (items_view values.items)) }
 {
     let mut columns = Vec::with_capacity(alloc, values.len())?;
     for value in values {
@@ -88,16 +100,16 @@ pub fn read_columns(alloc: Global, values: &[Value]) -> Result<Vec<AnyArray>, Re
 fn read_stored(
     alloc: Global,
     data_type: &DataType,
-    values: &[Value],
+    values: Vec<Value>,
 ) -> Result<(Vec<i64>, Vec<bool>), ReadError>
     ensures cells { Reads (λ parts. stored_cells parts.1.items parts.0.items) result
-        (each (cell_read data_type.now) (items_view values.now)) }
+        (each (cell_read data_type.now) (items_view values.items)) }
     ensures one_length { IfOk result (λ parts. vec_len parts.0 ≡ vec_len parts.1) }
 {
     let mut numbers = Vec::with_capacity(alloc, values.len())?;
     let mut validity = Vec::with_capacity(alloc, values.len())?;
     for value in values {
-        let Some(slot) = read_slot(data_type, value) else {
+        let Some(slot) = read_slot(data_type, &value) else {
             return Err(ReadError::Malformed);
         };
         numbers.push(slot.unwrap_or(0))?;

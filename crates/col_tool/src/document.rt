@@ -12,7 +12,7 @@ ghost use Rattle.col_tool.specs.View.{document_view};
 #[cfg(test)]
 mod tests;
 
-use crate::cells::{list_at, read_columns};
+use crate::cells::{list_at, read_columns, take_list};
 use crate::trees::read_trees;
 use col_array::AnyArray;
 use col_eval::{Expr, Table};
@@ -44,7 +44,7 @@ pub fn read_document(alloc: Global, bytes: &[u8]) -> Result<Document, ReadError>
         ((result ≡ Err Malformed) ↔ (document_of bytes.now ≡ None)) }
 {
     match Value::from_slice(alloc, bytes) {
-        Ok(value) => read_value(alloc, &value),
+        Ok(value) => read_value(alloc, value),
         Err(error) => Err(refusal(&error)),
     }
 }
@@ -101,17 +101,17 @@ fn refusal(error: &serde_json::Error) -> ReadError
 }
 
 // The document that a JSON value is.
-fn read_value(alloc: Global, value: &Value) -> Result<Document, ReadError>
-    ensures { Reads document_view result (document_read (view value.now)) }
+fn read_value(alloc: Global, mut value: Value) -> Result<Document, ReadError>
+    ensures { Reads document_view result (document_read (view value)) }
 {
-    let Some(columns) = list_at(value, "columns") else {
+    let Some(trees) = list_at(&value, "trees") else {
         return Err(ReadError::Malformed);
     };
-    let Some(trees) = list_at(value, "trees") else {
+    let trees = read_trees(alloc, trees)?;
+    let Some(columns) = take_list(alloc, &mut value, "columns") else {
         return Err(ReadError::Malformed);
     };
     let columns = read_columns(alloc, columns)?;
-    let trees = read_trees(alloc, trees)?;
     let table = make_table(columns)?;
     Ok(Document { table, trees })
 }

@@ -1,4 +1,5 @@
-use Rattle.std.proofs.Common.{◌≡◌, drop, map}
+use Rattle.std.proofs.Common.{◌≡◌, map}
+use Rattle.std.specs.Vec.Iter.{into_iter_items}
 use Rattle.serde_json.specs.View.{items_view}
 use Rattle.col_array.specs.Any.{any_column}
 use Rattle.col_tool.specs.Document.{column_read}
@@ -8,5 +9,5 @@ use Rattle.col_tool.proofs.cells.read_columns.Given as goal
 
 abbrev pub invariant-loop-value : goal.invariant-loop-value
 invariant-loop-value l =
-    front (map any_column l.columns.items) (each column_read (items_view (drop l.value-index l.values)))
-    ≡ each column_read (items_view l.values)
+    front (map any_column l.columns.items) (each column_read (items_view (into_iter_items l.value-iterator)))
+    ≡ each column_read (items_view l.fn.values.items)

@@ -7,6 +7,16 @@ use Rattle.col_tool.specs.Document.{cell_read}
 use Rattle.col_tool.proofs.StoredCells.{stored-next}
 use Rattle.col_tool.proofs.cells.read_stored.Goals as goal
 
+pub loop-value-preserved-in_ok-push-2 : goal.loop-value-preserved-in_ok-push-2
+loop-value-preserved-in_ok-push-2 c =
+    let fits : SFits w64 c.unwrap_or.result = search rules in
+    record {
+      one_length = grind (arith, common_steps);
+      done =
+          rw (c.in_ok-push-2.ensures.items, c.in_ok-push.ensures.items, to_z-of_z w64 c.unwrap_or.result fits, c.unwrap_or.ensures, c.is_some.ensures)
+          (stored-next (cell_read c.args.data_type.now) c.args.values.items _ _ c.in-Some.value c.loop-value.validity.items c.loop-value.numbers.items c.in-Some-read_slot.slot c.loop-value.invariant.one_length c.in-Some.ensures.steps.0 c.in-Some-read_slot.ensures c.loop-value.invariant.done);
+    }
+
 pub loop-value-preserved : goal.loop-value-preserved
 loop-value-preserved c =
     let fits : SFits w64 c.unwrap_or.result = search rules in
@@ -14,5 +24,5 @@ loop-value-preserved c =
       one_length = grind (arith, common_steps);
       done =
           rw (c.in_ok-push-2.ensures.items, c.in_ok-push.ensures.items, to_z-of_z w64 c.unwrap_or.result fits, c.unwrap_or.ensures, c.is_some.ensures)
-          (stored-next (cell_read c.args.data_type.now) c.args.values.now c.loop-value.value-index c.value-item.result c.loop-value.validity.items c.loop-value.numbers.items c.in-Some.slot c.loop-value.invariant.one_length (omega arith) c.value-item.is c.in-Some.ensures c.loop-value.invariant.done);
+          (stored-next (cell_read c.args.data_type.now) c.args.values.items _ _ c.in-Some.value c.loop-value.validity.items c.loop-value.numbers.items c.in-Some-read_slot.slot c.loop-value.invariant.one_length c.in-Some.ensures.steps.0 c.in-Some-read_slot.ensures c.loop-value.invariant.done);
     }

@@ -1,4 +1,5 @@
-use Rattle.std.proofs.Common.{◌≡◌, drop, length}
+use Rattle.std.proofs.Common.{◌≡◌, length}
+use Rattle.std.specs.Vec.Iter.{into_iter_items}
 use Rattle.serde_json.specs.View.{items_view}
 use Rattle.col_array.specs.Parts.{stored_cells}
 use Rattle.col_tool.specs.Document.{cell_read}
@@ -10,6 +11,6 @@ abbrev pub invariant-loop-value : goal.invariant-loop-value
 invariant-loop-value l = record {
   one_length : length l.validity.items ≡ length l.numbers.items;
   done :
-      front (stored_cells l.validity.items l.numbers.items) (each (cell_read l.data_type) (items_view (drop l.value-index l.values)))
-      ≡ each (cell_read l.data_type) (items_view l.values);
+      front (stored_cells l.validity.items l.numbers.items) (each (cell_read l.data_type) (items_view (into_iter_items l.value-iterator)))
+      ≡ each (cell_read l.data_type) (items_view l.fn.values.items);
 }
