@@ -1,0 +1,5 @@
+pub mod BitLemmas
+pub mod ChunkLemmas
+pub mod CutLemmas
+pub mod NumberLemmas
+pub mod PackedLemmas
