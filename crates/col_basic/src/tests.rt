@@ -38,6 +38,21 @@ fn a_null_beside_a_value_gives_null(rt: HostRuntime) -> Result<(), Error> {
 }
 
 #[test]
+fn a_number_stored_beneath_a_null_is_not_read(rt: HostRuntime) -> Result<(), Error> {
+    let alloc = rt.alloc();
+    let numbers = vec![in alloc; i64::MAX, 2]?;
+    let validity = vec![in alloc; false, true]?;
+    let lhs = PrimitiveArray::try_new(DataType::Int64, numbers, validity)?;
+    let rhs = array_of(alloc, &[Some(1), Some(1)])?;
+    let sums = [None, Some(3)];
+    assert!(rt; lhs.equal(&array_of(alloc, &[None, Some(2)])?));
+    assert!(rt; is_answer(alloc, add(alloc, &lhs, &rhs), Ok(&sums))?);
+    assert!(rt; is_answer(alloc, add(alloc, &rhs, &lhs), Ok(&sums))?);
+    assert!(rt; is_answer(alloc, add_scalar(alloc, &lhs, &1), Ok(&sums))?);
+    Ok(())
+}
+
+#[test]
 fn an_overflow_refuses_or_gives_null(rt: HostRuntime) -> Result<(), Error> {
     let alloc = rt.alloc();
     // both slots of row 1, after a row that fits

@@ -3,20 +3,19 @@ use Rattle.std.specs.Str.{bytes_eq}
 use Rattle.std.proofs.lemmas.Slice.Eq.{bytes_eq-Decides}
 use Rattle.std.proofs.Common.{Bool, IsTrue, ◌↔◌, ◌≡◌, ◌≤◌, ◌<◌, ℕ, List, [], ◌∷◌, length, get_or, map, ap, String, Global, string_bytes, Option, None, Some, refl, sym, ◌∙◌, append-nil, arith}
 use Rattle.col_tool.specs.Faults.{TakesAtMost}
-use Rattle.col_tool.specs.Run.{IsPageOf, IsStopped, ReadsAll, TakesWithin}
+use Rattle.col_tool.specs.Run.{IsPageOf, IsStopped, ReadsAll, TakesWithin, max_bytes}
 use Rattle.col_tool.specs.PageView.{PageView}
 use Rattle.col_tool.specs.declared.status.Status.{Status}
 use Rattle.col_tool.specs.declared.status.Status.TheVariants.{Done, Refused, Malformed, ReadFault, WriteFault, Memory, TooLong, Words}
-use Rattle.col_tool.specs.declared.transfer.TheConstants.{LIMIT}
 
 -- what was read to its end is within the limit
-pub reads_all-within : (left rest : Option (List ℕ)) (fact : List ℕ → Type 0) → ReadsAll left rest fact → TakesAtMost left LIMIT rest
+pub reads_all-within : (left rest : Option (List ℕ)) (fact : List ℕ → Type 0) → ReadsAll left rest fact → TakesAtMost left max_bytes rest
 reads_all-within None rest fact h = ([], h, omega arith)
 reads_all-within (Some bytes) (Some none) fact (short, ended, holds) = let e : none ≡ [] = cc in (bytes, rw (e, append-nil) refl, short)
 reads_all-within (Some bytes) None fact (short, ended, holds) = absurd cc
 
 -- a page is of what is within the limit
-pub page_of-within : (left rest : Option (List ℕ)) (page : PageView) → IsPageOf left rest page → TakesAtMost left LIMIT rest
+pub page_of-within : (left rest : Option (List ℕ)) (page : PageView) → IsPageOf left rest page → TakesAtMost left max_bytes rest
 page_of-within left rest page h = reads_all-within left rest _ h.1
 
 -- so is what is refused before the writing, but where it is too long

@@ -1,5 +1,5 @@
 -- Documents: the table and the trees that a JSON text holds.
-use Rattle.std.specs.Prelude.{ℕ, ◌^◌, ℤ, Bool, ◌&&◌, ◌||◌, ◌==◌, not, nat_lt, nat_le, if◌then◌else◌, List, [], ◌∷◌, length, slice_index, codes, is_some, Option, Some, None, option_map}
+use Rattle.std.specs.Prelude.{ℕ, ◌^◌, ℤ, Bool, true, ◌&&◌, ◌||◌, ◌==◌, not, nat_lt, nat_le, if◌then◌else◌, List, [], ◌∷◌, length, slice_index, codes, is_some, Option, Some, None, option_map}
 use Rattle.std.specs.Str.{all_ascii_digits, bytes_eq, is_utf8}
 use Rattle.std.specs.Str.Parse.{digits_value, signed_digits_value, without_leading_sign}
 use Rattle.serde_json.specs.Data.{Data}
@@ -7,7 +7,7 @@ use Rattle.serde_json.specs.Data as json
 use Rattle.serde_json.specs.Find.{get, as_array, as_i64, as_str}
 use Rattle.serde_json.specs.Read.{read}
 use Rattle.col_model.specs.Cell.{Cell, null, whole}
-use Rattle.col_model.specs.Whole.{WholeType, is_fitting}
+use Rattle.col_model.specs.Whole.{WholeType, signed, unsigned, is_fitting}
 use Rattle.col_types.specs.Column.{Column, is_table}
 use Rattle.col_types.specs.PhysicalType.{whole_type_of}
 use Rattle.col_types.specs.declared.datatypes.DataType.{DataType}
@@ -24,10 +24,17 @@ use Rattle.col_tool.specs.Json.{◌>>=◌, each, item_count}
 abbrev pub is_digits : List ℕ → Bool
 is_digits text = nat_lt 0 (length text) && all_ascii_digits text
 
--- the number that a text spells, where it fits: a sign or none, then digits
+-- a minus sign stands before numbers of types with a sign alone
+abbrev pub is_sign_had : WholeType → List ℕ → Bool
+is_sign_had (signed w) text = true
+is_sign_had (unsigned w) text = not (slice_index text 0 == 45)
+
+-- the number that a text spells, where it fits: a sign that the type has or none, then digits
 abbrev pub number_read : WholeType → List ℕ → Option ℤ
 number_read t text =
-    if is_digits (without_leading_sign text) && is_fitting t (signed_digits_value 10 text) then Some (signed_digits_value 10 text)
+    if is_sign_had t text && is_digits (without_leading_sign text)
+    && is_fitting t (signed_digits_value 10 text)
+    then Some (signed_digits_value 10 text)
     else None
 
 -- digits without a zero in front of others

@@ -7,7 +7,10 @@ use Rattle.col_tool.specs.Page.{has_error_line, page_text}
 use Rattle.col_tool.specs.PageView.{PageView}
 use Rattle.col_tool.specs.declared.status.Status.{Status}
 use Rattle.col_tool.specs.declared.status.Status.TheVariants.{Done, Refused, Malformed, ReadFault, WriteFault, Memory, TooLong, Words}
-use Rattle.col_tool.specs.declared.transfer.TheConstants.{LIMIT}
+
+-- the most bytes that a document has: 64 mebibytes
+abbrev pub max_bytes : ℕ
+max_bytes = 67108864
 
 -- the words are those of the command that evaluates a document
 abbrev pub IsEval : List (String Global) → Type 0
@@ -16,7 +19,7 @@ IsEval words = map string_bytes words ≡ codes "eval" ∷ []
 -- what was left was read to its end, and the fact holds of it, where it is told
 abbrev pub ReadsAll : Option (List ℕ) → Option (List ℕ) → (List ℕ → Type 0) → Type 0
 ReadsAll None rest fact = rest ≡ None
-ReadsAll (Some bytes) rest fact = (length bytes ≤ LIMIT) × (rest ≡ Some []) × fact bytes
+ReadsAll (Some bytes) rest fact = (length bytes ≤ max_bytes) × (rest ≡ Some []) × fact bytes
 
 -- the bytes are a document; its page, and nothing else, was written, and the flag tells whether some line is an error line
 pub record IsDelivered (old new : Option (List ℕ)) (has_error : Bool) (bytes : List ℕ) : Type 0 where
@@ -56,14 +59,14 @@ MalformedWhere Words left rest = ⊤
 -- how many bytes were taken: one past the limit where the input is too long, else at most as many as the limit;
 -- want of memory may come in front of that answer, and wrong words take nothing
 abbrev pub TakesWithin : Status → Option (List ℕ) → Option (List ℕ) → Type 0
-TakesWithin TooLong left rest = TakesCount left (LIMIT + 1) rest
-TakesWithin Memory left rest = TakesAtMost left (LIMIT + 1) rest
+TakesWithin TooLong left rest = TakesCount left (max_bytes + 1) rest
+TakesWithin Memory left rest = TakesAtMost left (max_bytes + 1) rest
 TakesWithin Words left rest = rest ≡ left
-TakesWithin Done left rest = TakesAtMost left LIMIT rest
-TakesWithin Refused left rest = TakesAtMost left LIMIT rest
-TakesWithin WriteFault left rest = TakesAtMost left LIMIT rest
-TakesWithin Malformed left rest = TakesAtMost left LIMIT rest
-TakesWithin ReadFault left rest = TakesAtMost left LIMIT rest
+TakesWithin Done left rest = TakesAtMost left max_bytes rest
+TakesWithin Refused left rest = TakesAtMost left max_bytes rest
+TakesWithin WriteFault left rest = TakesAtMost left max_bytes rest
+TakesWithin Malformed left rest = TakesAtMost left max_bytes rest
+TakesWithin ReadFault left rest = TakesAtMost left max_bytes rest
 
 -- the page is that of the document that was left
 abbrev pub IsPageOf : Option (List ℕ) → Option (List ℕ) → PageView → Type 0
@@ -72,9 +75,9 @@ IsPageOf left rest page = (d : DocumentView) × ReadsAll left rest (λ bytes. do
 -- why there is no page
 abbrev pub IsStopped : Option (List ℕ) → Option (List ℕ) → ℕ → ℕ → Status → Type 0
 IsStopped left rest old new Malformed = ReadsAll left rest (λ bytes. document_of bytes ≡ None)
-IsStopped left rest old new ReadFault = TakesAtMost left LIMIT rest × FaultsRose old new
-IsStopped left rest old new Memory = TakesAtMost left (LIMIT + 1) rest
-IsStopped left rest old new TooLong = TakesCount left (LIMIT + 1) rest
+IsStopped left rest old new ReadFault = TakesAtMost left max_bytes rest × FaultsRose old new
+IsStopped left rest old new Memory = TakesAtMost left (max_bytes + 1) rest
+IsStopped left rest old new TooLong = TakesCount left (max_bytes + 1) rest
 IsStopped left rest old new Done = ⊥
 IsStopped left rest old new Refused = ⊥
 IsStopped left rest old new WriteFault = ⊥

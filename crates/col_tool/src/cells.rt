@@ -78,7 +78,7 @@ pub fn read_column(alloc: Global, mut value: Value) -> Result<AnyArray, ReadErro
     let (numbers, validity) = read_stored(alloc, &data_type, values)?;
     match PrimitiveArray::try_new(data_type, numbers, validity) {
         Ok(array) => Ok(AnyArray::Int64(array)),
-        Err(_) => Err(ReadError::Memory),
+        Err(_) => Err(ReadError::Malformed),
     }
 }
 

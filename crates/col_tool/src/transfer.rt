@@ -1,6 +1,7 @@
 //! Reading a whole source, and writing a whole page.
 ghost use Rattle.std.specs.Prelude.{◌≡◌, ◌+◌, ◌≤◌, length, IfOk, OnOk, OnErr, IsErrOf};
 ghost use Rattle.col_tool.specs.Faults.{FaultsRose, TakesAll, TakesCount, TakesAtMost, AddsBytes, AddsFront};
+ghost use Rattle.col_tool.specs.Run.{max_bytes};
 ghost use Rattle.col_tool.specs.declared.transfer.Stop.TheVariants.{Memory};
 
 use crate::sink::Sink;
@@ -39,14 +40,14 @@ impl From<AllocError> for Stop {
 pub(crate) fn read_all<S: Source>(alloc: Global, source: &mut S) -> Result<Vec<u8>, Stop>
     ensures whole { IfOk result
         (λ bytes. TakesAll (S.left source.old) bytes.items (S.left source.new)) }
-    ensures short { IfOk result (λ bytes. length bytes.items ≤ LIMIT) }
+    ensures short { IfOk result (λ bytes. length bytes.items ≤ max_bytes) }
     ensures too_long { IsErrOf result Stop.TooLong →
-        TakesCount (S.left source.old) (LIMIT + 1) (S.left source.new) }
+        TakesCount (S.left source.old) (max_bytes + 1) (S.left source.new) }
     ensures read_fault { IsErrOf result Stop.ReadFault →
         FaultsRose (S.faults source.old) (S.faults source.new)
-        × TakesAtMost (S.left source.old) LIMIT (S.left source.new) }
+        × TakesAtMost (S.left source.old) max_bytes (S.left source.new) }
     ensures kept { OnErr result
-        (TakesAtMost (S.left source.old) (LIMIT + 1) (S.left source.new)) }
+        (TakesAtMost (S.left source.old) (max_bytes + 1) (S.left source.new)) }
     ensures counts { S.faults source.old ≤ S.faults source.new }
 {
     let mut bytes = Vec::new(alloc);

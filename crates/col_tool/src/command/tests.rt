@@ -3,9 +3,11 @@ ghost use Rattle.std.specs.Prelude.{ℕ, List, Option, None};
 
 use crate::command::run;
 use crate::sink::MemorySink;
-use crate::source::{Failed, Source, SteadySource};
+use crate::source::{Failed, ReadSource, Source, SteadySource};
 use crate::status::Status;
 use std::alloc::Global;
+use std::io;
+use std::io::{ErrorKind, Read};
 use std::test::Fail;
 
 // The words `eval` over a text: the status, and what was written.
@@ -63,6 +65,12 @@ fn each_tree_has_its_line(rt: HostRuntime) -> Result<(), Fail> {
             "Int64 [null]\n",
         ),
         ("1,2", "3,4", r#"["c0",NULL,"add"]"#, "Int64 [null,null]\n"),
+        (
+            "",
+            "",
+            r#"["c0",ONE,"add"],["c0",ONE,"checked_add"],["c0",NULL,"add"]"#,
+            "Int64 []\nInt64 []\nInt64 []\n",
+        ),
         (
             "1,2",
             "3,4",
@@ -165,10 +173,12 @@ impl Source for Spaces {
 #[test]
 fn words_and_length_come_before_the_document(rt: HostRuntime) -> Result<(), Fail> {
     let alloc = rt.alloc();
-    let lists: [(&[&str], usize, Status); 7] = [
+    let lists: [(&[&str], usize, Status); 9] = [
         (&[], 3, Status::Words),
         (&["evl"], 3, Status::Words),
         (&["eval", "eval"], 3, Status::Words),
+        (&["x", "eval"], 3, Status::Words),
+        (&["eval", "x"], 3, Status::Words),
         (&["eval "], 67108865, Status::Words),
         (&["sum"], 3, Status::Words),
         (&["eval"], 67108865, Status::TooLong),
@@ -184,6 +194,41 @@ fn words_and_length_come_before_the_document(rt: HostRuntime) -> Result<(), Fail
         let status = run(alloc, words.as_slice(), &mut source, &mut sink);
         assert_eq!(rt; status, wanted, "{texts:?} {count}");
         assert_eq!(rt; sink.bytes().len(), 0, "{texts:?} {count}");
+    }
+    Ok(())
+}
+
+// A reader of so many spaces that fails after them.
+#[derive(Drop)]
+struct Broken {
+    count: usize,
+}
+
+impl Read for Broken {
+    fn read(&mut self, piece: &mut [u8]) -> io::Result<usize> {
+        if self.count == 0 {
+            return Err(ErrorKind::Other.into());
+        }
+        let count = piece.len().min(self.count);
+        for byte in &mut piece[..count] {
+            *byte = b' ';
+        }
+        self.count -= count;
+        Ok(count)
+    }
+}
+
+#[test]
+fn a_source_that_fails_ends_the_run(rt: HostRuntime) -> Result<(), Fail> {
+    let alloc = rt.alloc();
+    for count in [0, 5, 70000] {
+        let mut words = Vec::new(alloc);
+        words.push(String::from_str(alloc, "eval")?)?;
+        let mut source = ReadSource::new(Broken { count });
+        let mut sink = MemorySink::new(alloc, 64, 64, Vec::new(alloc))?;
+        let status = run(alloc, words.as_slice(), &mut source, &mut sink);
+        assert_eq!(rt; status, Status::ReadFault, "after {count}");
+        assert_eq!(rt; sink.bytes().len(), 0, "after {count}");
     }
     Ok(())
 }
