@@ -1,12 +1,12 @@
 -- The parts that arrays and scalars of numbers are made of, and the cells that they stand for.
 use Rattle.std.specs.Prelude.{ℕ, ◌+◌, ℤ, Bool, true, false, List, [], ◌∷◌, Option, Some, None}
 use Rattle.col_model.specs.Cell.{Cell, null, whole}
-use Rattle.col_types.specs.declared.datatypes.DataType.{DataType}
+use Rattle.col_types.specs.DataKind.{DataKind}
 use Rattle.col_types.specs.Column.{Column}
 
 -- an array's parts: its type, a stored value for each slot, and for each slot whether it is valid
 pub record PrimitiveParts (T : Type 0) : Type 0 where
-  pub data_type : DataType
+  pub data_type : DataKind
   pub values : List T
   pub validity : List Bool
 
@@ -38,5 +38,5 @@ null_count_of (whole n ∷ cells) = null_count_of cells
 
 -- a scalar's parts: its type, and its slot
 pub record ScalarParts (T : Type 0) : Type 0 where
-  pub data_type : DataType
+  pub data_type : DataKind
   pub slot : Option T

@@ -1,7 +1,10 @@
 //! Arrays of any type.
-ghost use Rattle.std.specs.Prelude.{◌≡◌, ◌≢◌, ◌<◌, ◌↔◌, IsTrue, IfOk, Some, replicate, slice_get};
+ghost use Rattle.std.specs.Prelude.{◌≡◌, ◌≢◌, ◌<◌, ◌↔◌, IsTrue, IsOk, IfErr, IfOk, Some, replicate, slice_get};
 ghost use Rattle.col_model.specs.Cell.{null};
-ghost use Rattle.col_types.specs.Answer.{FailsByMemory};
+ghost use Rattle.col_types.specs.DataKind.{kind_of};
+ghost use Rattle.col_types.specs.DataType.{IsMadeOf, type_error};
+ghost use Rattle.col_types.specs.declared.datatypes.physical_type.PrimitiveType.TheVariants as native;
+ghost use Rattle.col_types.specs.Answer.{ButForMemory, FailsByMemory, UnlessMemory};
 ghost use Rattle.col_types.specs.Column.{row_count};
 ghost use Rattle.col_array.specs.Any.{any_column};
 ghost use Rattle.col_array.specs.Parts.{null_count_of};
@@ -28,10 +31,15 @@ impl From<PrimitiveArray<i64>> for AnyArray {
 
 impl AnyArray {
     /// An array of null slots.
+    ///
+    /// Refused, in this order: `Parameters` where the type's parameters do not fit; `OutOfSpec`
+    /// where the type is not carried or not stored in 64 bits.
     pub fn new_null(alloc: Global, data_type: DataType, length: usize) -> Result<AnyArray, Error>
         ensures value { IfOk result (λ array. any_column array
-            ≡ record { data_type = data_type; cells = replicate length null }) }
-        ensures refused { FailsByMemory result }
+            ≡ record { data_type = kind_of data_type; cells = replicate length null }) }
+        ensures range { ButForMemory result
+            (IsOk result ↔ IsMadeOf (kind_of data_type) native.Int64) }
+        ensures refused { IfErr result (λ e. UnlessMemory e (e ≡ type_error (kind_of data_type))) }
     {
         Ok(AnyArray::Int64(PrimitiveArray::new_null(alloc, data_type, length)?))
     }
@@ -66,7 +74,8 @@ impl AnyArray {
 
     /// The array's type.
     pub fn data_type(&self) -> &DataType
-        ensures { result.now ≡ (any_column self.now).data_type }
+        ensures value { kind_of result.now ≡ (any_column self.now).data_type }
+        ensures made { IsMadeOf (kind_of result.now) native.Int64 }
     {
         match self {
             AnyArray::Int64(array) => array.data_type(),

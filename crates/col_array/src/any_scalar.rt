@@ -1,6 +1,9 @@
 //! Scalars of any type.
 ghost use Rattle.std.specs.Prelude.{◌≡◌, ◌≢◌, ◌↔◌, IsTrue, IfOk};
 ghost use Rattle.col_model.specs.Cell.{null};
+ghost use Rattle.col_types.specs.DataKind.{kind_of};
+ghost use Rattle.col_types.specs.DataType.{IsMadeOf};
+ghost use Rattle.col_types.specs.declared.datatypes.physical_type.PrimitiveType.TheVariants as native;
 ghost use Rattle.col_types.specs.Answer.{FailsByMemory};
 ghost use Rattle.col_array.specs.Any.{scalar_cell, scalar_type};
 
@@ -18,7 +21,8 @@ pub enum AnyScalar {
 impl AnyScalar {
     /// The scalar's type.
     pub fn data_type(&self) -> &DataType
-        ensures { result.now ≡ scalar_type self.now }
+        ensures value { kind_of result.now ≡ scalar_type self.now }
+        ensures made { IsMadeOf (kind_of result.now) native.Int64 }
     {
         match self {
             AnyScalar::Int64(scalar) => scalar.data_type(),

@@ -1,11 +1,14 @@
 //! Arrays of numbers of one native type.
-ghost use Rattle.std.specs.Prelude.{◌≡◌, ◌≢◌, ◌<◌, ◌↔◌, IsTrue, Err, IfErr, IfOk, Some, vec_len, count_by, is_some, map, not, pos, replicate, slice_get, unwrap_or};
+ghost use Rattle.std.specs.Prelude.{◌≡◌, ◌≢◌, ◌<◌, ◌↔◌, IsTrue, IsOk, IfErr, IfOk, Some, vec_len, count_by, is_some, map, not, pos, replicate, slice_get, unwrap_or};
 ghost use Rattle.col_model.specs.Cell.{null};
-ghost use Rattle.col_types.specs.Answer.{FailsByMemory};
+ghost use Rattle.col_types.specs.DataKind.{kind_of};
+ghost use Rattle.col_types.specs.DataType.{IsMadeOf, type_error};
+ghost use Rattle.col_types.specs.declared.datatypes.physical_type.PrimitiveType.TheVariants.{Int64};
+ghost use Rattle.col_types.specs.Answer.{ButForMemory, FailsByMemory, UnlessMemory};
 ghost use Rattle.col_types.specs.Column.{row_count};
 ghost use Rattle.col_array.specs.Parts.{column_of, cell_of, null_count_of};
 
-use col_types::{DataType, Error, NativeType};
+use col_types::{DataType, Error, NativeType, Reason};
 use std::alloc::{AllocError, Global};
 use std::marker::Model;
 
@@ -21,32 +24,43 @@ pub struct PrimitiveArray<T: NativeType> {
 
 impl<T: NativeType> Model for PrimitiveArray<T> {
     ghost use Rattle.std.specs.Prelude.{◌≡◌, length};
+    ghost use Rattle.std.specs.Coded.{codes};
+    ghost use Rattle.col_types.specs.DataKind.{kind_of};
+    ghost use Rattle.col_types.specs.DataType.{IsMadeOf};
+    ghost use Rattle.col_types.specs.KindCode.{kind_code};
     ghost use Rattle.col_array.specs.Parts.{PrimitiveParts};
 
     ghost Value = { PrimitiveParts T };
 
-    ghost view = { λ a. record { data_type = a.data_type; values = a.values.items; validity = a.validity.items } };
+    ghost coded = { Prim.hlevel (codes, kind_code) };
 
-    ghost invariant = { λ a. length a.validity.items ≡ length a.values.items };
+    ghost view = { λ a. record { data_type = kind_of a.data_type; values = a.values.items; validity = a.validity.items } };
+
+    ghost invariant = { λ a. IsMadeOf (kind_of a.data_type) T.PRIMITIVE
+        × (length a.validity.items ≡ length a.values.items) };
 }
 
 impl PrimitiveArray<i64> {
     /// An array of stored numbers, beside a flag for each that tells whether its slot is valid.
     ///
-    /// Refused: `OutOfSpec` where there are not as many flags as numbers.
+    /// Refused, in this order: `Parameters` where the type's parameters do not fit; `OutOfSpec`
+    /// where the type is not carried or not stored in 64 bits, or where there are not as many flags
+    /// as numbers.
     pub fn try_new(
         data_type: DataType,
         values: Vec<i64>,
         validity: Vec<bool>,
     ) -> Result<PrimitiveArray<i64>, Error>
         ensures value { IfOk result (λ array. array ≡ record {
-          data_type = data_type;
+          data_type = kind_of data_type;
           values = values.items;
           validity = validity.items;
         }) }
-        ensures parts { (result ≡ Err Error.OutOfSpec) ↔ (vec_len values ≢ vec_len validity) }
-        ensures refused { IfErr result (λ e. e ≡ Error.OutOfSpec) }
+        ensures range { IsOk result
+            ↔ (IsMadeOf (kind_of data_type) Int64 × (vec_len values ≡ vec_len validity)) }
+        ensures refused { IfErr result (λ e. e ≡ type_error (kind_of data_type)) }
     {
+        check_type(&data_type)?;
         if values.len() != validity.len() {
             return Err(Error::OutOfSpec);
         }
@@ -58,15 +72,20 @@ impl PrimitiveArray<i64> {
     }
 
     /// An array of the slots, in their order.
+    ///
+    /// Refused, in this order: `Parameters` where the type's parameters do not fit; `OutOfSpec`
+    /// where the type is not carried or not stored in 64 bits.
     pub fn from_options(
         alloc: Global,
         data_type: DataType,
         slots: &[Option<i64>],
     ) -> Result<PrimitiveArray<i64>, Error>
         ensures value { IfOk result (λ array. column_of array
-            ≡ record { data_type = data_type; cells = map cell_of slots.now }) }
-        ensures refused { FailsByMemory result }
+            ≡ record { data_type = kind_of data_type; cells = map cell_of slots.now }) }
+        ensures range { ButForMemory result (IsOk result ↔ IsMadeOf (kind_of data_type) Int64) }
+        ensures refused { IfErr result (λ e. UnlessMemory e (e ≡ type_error (kind_of data_type))) }
     {
+        check_type(&data_type)?;
         let values = stored_values(alloc, slots)?;
         let validity = flags_of(alloc, slots)?;
         Ok(PrimitiveArray {
@@ -77,15 +96,20 @@ impl PrimitiveArray<i64> {
     }
 
     /// An array of null slots.
+    ///
+    /// Refused, in this order: `Parameters` where the type's parameters do not fit; `OutOfSpec`
+    /// where the type is not carried or not stored in 64 bits.
     pub fn new_null(
         alloc: Global,
         data_type: DataType,
         length: usize,
     ) -> Result<PrimitiveArray<i64>, Error>
         ensures value { IfOk result (λ array. column_of array
-            ≡ record { data_type = data_type; cells = replicate length null }) }
-        ensures refused { FailsByMemory result }
+            ≡ record { data_type = kind_of data_type; cells = replicate length null }) }
+        ensures range { ButForMemory result (IsOk result ↔ IsMadeOf (kind_of data_type) Int64) }
+        ensures refused { IfErr result (λ e. UnlessMemory e (e ≡ type_error (kind_of data_type))) }
     {
+        check_type(&data_type)?;
         let values = vec![in alloc; 0; length]?;
         let validity = vec![in alloc; false; length]?;
         Ok(PrimitiveArray {
@@ -131,7 +155,8 @@ impl PrimitiveArray<i64> {
 
     /// The array's type.
     pub fn data_type(&self) -> &DataType
-        ensures { result.now ≡ (column_of self.now).data_type }
+        ensures value { kind_of result.now ≡ (column_of self.now).data_type }
+        ensures made { IsMadeOf (kind_of result.now) Int64 }
     {
         &self.data_type
     }
@@ -172,6 +197,20 @@ impl PrimitiveArray<i64> {
         }
         true
     }
+}
+
+// Refuses a type whose columns are not made of numbers of 64 bits.
+pub(crate) fn check_type(data_type: &DataType) -> Result<(), Error>
+    ensures range { IsOk result ↔ IsMadeOf (kind_of data_type.now) Int64 }
+    ensures refused { IfErr result (λ e. e ≡ type_error (kind_of data_type.now)) }
+{
+    if !data_type.parameters_fit() {
+        return Err(Error::InvalidArgumentError(Reason::Parameters));
+    }
+    if !data_type.is_carried() || !i64::is_of(data_type) {
+        return Err(Error::OutOfSpec);
+    }
+    Ok(())
 }
 
 // The numbers that slots are stored as: 0 beneath a null.

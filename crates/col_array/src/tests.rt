@@ -1,6 +1,6 @@
 //! What no clause shows: that calls succeed, on slots whose reading is known.
 use crate::{AnyArray, AnyScalar, PrimitiveArray, PrimitiveScalar};
-use col_types::{DataType, Error};
+use col_types::{DataType, Error, Reason, TimeUnit};
 use std::alloc::Global;
 
 fn array_of(alloc: Global, slots: &[Option<i64>]) -> Result<PrimitiveArray<i64>, Error> {
@@ -80,6 +80,33 @@ fn an_array_has_a_flag_for_each_number(rt: HostRuntime) -> Result<(), Error> {
             Ok(array) => assert!(rt; count == 2 && array.equal(&wanted), "{count} flags"),
             Err(e) => assert!(rt; count != 2 && e == Error::OutOfSpec, "{count} flags"),
         }
+    }
+    Ok(())
+}
+
+#[test]
+fn types_of_other_columns_are_refused(rt: HostRuntime) -> Result<(), Error> {
+    let alloc = rt.alloc();
+    let parameters = Error::InvalidArgumentError(Reason::Parameters);
+    let types = [
+        (DataType::Int64, None),
+        (DataType::Timestamp(TimeUnit::Second, None), None),
+        (DataType::Boolean, Some(Error::OutOfSpec)),
+        (DataType::Int32, Some(Error::OutOfSpec)),
+        (DataType::Time64(TimeUnit::Second), Some(Error::OutOfSpec)),
+        (DataType::Decimal(0, 0), Some(parameters)),
+    ];
+    for (data_type, wanted) in types {
+        let array = PrimitiveArray::from_options(alloc, data_type.try_clone(alloc)?, &[Some(1)]);
+        assert_eq!(rt; array.err(), wanted, "{data_type:?}");
+        let array = PrimitiveArray::<i64>::new_null(alloc, data_type.try_clone(alloc)?, 1);
+        assert_eq!(rt; array.err(), wanted, "{data_type:?}");
+        let array = AnyArray::new_null(alloc, data_type.try_clone(alloc)?, 1);
+        assert_eq!(rt; array.err(), wanted, "{data_type:?}");
+        let scalar = PrimitiveScalar::new(data_type.try_clone(alloc)?, Some(1));
+        assert_eq!(rt; scalar.err(), wanted, "{data_type:?}");
+        let array = PrimitiveArray::try_new(data_type, Vec::new(alloc), Vec::new(alloc));
+        assert_eq!(rt; array.err(), wanted, "of no slots");
     }
     Ok(())
 }

@@ -1,5 +1,5 @@
 -- What the operands of a step and the step give for a table.
-use Rattle.std.proofs.Common.{◌≡◌, ℕ, zero, suc, ◌+◌, true, ◌==◌, List, [], ◌∷◌, map, length, replicate, slice_get, slice_index_or, Some, option_map, Result, Ok, Err, IsOk, IsTrue, refl, sym, ap, ◌∙◌, eqb-true, eq-eqb}
+use Rattle.std.proofs.Common.{◌≡◌, ℕ, zero, suc, ◌+◌, true, ◌==◌, List, [], ◌∷◌, map, length, replicate, slice_get, slice_index_or, Option, None, Some, option_map, Result, Ok, Err, IsOk, IsTrue, refl, sym, ap, ◌∙◌, eqb-true, eq-eqb}
 use Rattle.std.specs.List.{list_all, range_with_len}
 use Rattle.std.proofs.lemmas.Bool.{and_parts}
 use Rattle.std.proofs.lemmas.List.{length-map}
@@ -10,15 +10,17 @@ use Rattle.col_model.specs.Cell.{Cell, null, whole, Cause}
 use Rattle.col_model.specs.WholeStep.{each_row}
 use Rattle.col_types.specs.Answer.{UnlessMemory, error_of}
 use Rattle.col_types.specs.Column.{Column, column_answer, is_table, kernel_answer, row_at, row_count, scalar_answer, table_row_count, types_of}
-use Rattle.col_types.specs.declared.datatypes.DataType.{DataType}
-use Rattle.col_types.specs.declared.datatypes.DataType.TheVariants.{Int64}
+use Rattle.col_types.specs.DataKind.{DataKind}
+use Rattle.col_types.specs.DataKind as kind
+use Rattle.col_types.specs.DataType.{whole_type_of}
+use Rattle.col_model.specs.Whole.{WholeType}
 use Rattle.col_types.specs.declared.error.Error.{Error}
 use Rattle.col_types.specs.declared.error.Error.TheVariants.{Memory, NotYetImplemented, InvalidArgumentError, Overflow, DivideByZero, OutOfRange, OutOfSpec}
 use Rattle.col_eval.specs.declared.expr.Op.{Op}
 use Rattle.col_eval.specs.Entries.{entry_of}
 use Rattle.col_eval.specs.Tree.{Tree, column, literal, step, step_count}
 use Rattle.col_eval.specs.Typing.{right_type, type_of}
-use Rattle.col_eval.specs.Meaning.{cell, RowsAnswer, all_cells, refusal, row_meaning, rows_of, step_of, typed_rows}
+use Rattle.col_eval.specs.Meaning.{cell, RowsAnswer, all_cells, refusal, row_meaning, rows_of, step_of, typed_rows, typed_step}
 use Rattle.col_eval.specs.Operand.{operand_outcome, rows_meaning}
 use Rattle.col_eval.proofs.GatherLemmas.{at_rows, gathered-cells, gathered-row_step, rows_step}
 use Rattle.col_eval.proofs.RefusalLemmas.{IsGatheredFrom-gathered}
@@ -76,7 +78,7 @@ length-rows_meaning tree table cells h =
     ∙ length-range_with_len 0 (table_row_count table)
 
 -- a literal gives its cell at each row
-rows_meaning-literal : (t : DataType) (c : Cell) (table : List Column) (count : ℕ)
+rows_meaning-literal : (t : DataKind) (c : Cell) (table : List Column) (count : ℕ)
     → count ≡ table_row_count table
     → rows_meaning (literal t c) table ≡ all_cells (replicate count c)
 rows_meaning-literal t c table count h =
@@ -86,7 +88,7 @@ rows_meaning-literal t c table count h =
     ∙ length-range_with_len 0 (table_row_count table) ∙ sym h)))
 
 -- the type and the cells of what is a column
-pub typed_parts : (t : Result DataType Error) (rows : RowsAnswer) (c : Column)
+pub typed_parts : (t : Result DataKind Error) (rows : RowsAnswer) (c : Column)
     → typed_rows t rows ≡ Ok c → (t ≡ Ok c.data_type) × (rows ≡ all_cells c.cells)
 typed_parts (Err e) rows c h = absurd cc
 typed_parts (Ok t) (all_cells cells) c h =
@@ -95,7 +97,7 @@ typed_parts (Ok t) (all_cells cells) c h =
 typed_parts (Ok t) (refusal k cause) c h = absurd cc
 
 -- the type and the refusal of what is none
-typed_refusal : (t : Result DataType Error) (rows : RowsAnswer) (e : Error) → IsOk t
+typed_refusal : (t : Result DataKind Error) (rows : RowsAnswer) (e : Error) → IsOk t
     → typed_rows t rows ≡ Err e
     → (k : ℕ) × (cause : Cause) × (rows ≡ refusal k cause) × (error_of cause ≡ e)
 typed_refusal (Err d) rows e h g = absurd cc
@@ -103,17 +105,27 @@ typed_refusal (Ok t) (all_cells cells) e h g = absurd cc
 typed_refusal (Ok t) (refusal k cause) e h g = (k, cause, refl, cc)
 
 -- a refusal of the rows is the answer of what has a type
-typed_rows-refusal : (t : Result DataType Error) (k : ℕ) (cause : Cause) → IsOk t
+typed_rows-refusal : (t : Result DataKind Error) (k : ℕ) (cause : Cause) → IsOk t
     → typed_rows t (refusal k cause) ≡ Err (error_of cause)
 typed_rows-refusal (Ok t) k cause h = refl
 typed_rows-refusal (Err e) k cause h = absurd cc
 
 -- a step has its left operand's type
-entry_of-left : (op : Op) (s t : DataType) → IsOk (entry_of op s t) → entry_of op s t ≡ Ok s
-entry_of-left op Int64 Int64 h = refl
+entry_of-left : (op : Op) (s t : DataKind) → IsOk (entry_of op s t) → entry_of op s t ≡ Ok s
+entry_of-left op kind.int64 kind.int64 h = refl
+entry_of-left op _ _ h = absurd cc
+
+-- a step with a type has an entry for the types of its operands
+pub entry_of-operands : (op : Op) (left right : Tree) (t : DataKind) (table : List Column) (l : Column)
+    → IsOk (type_of (step op left right) (types_of table)) → operand_outcome left table ≡ Ok l
+    → right_type right (type_of right (types_of table)) ≡ Ok t
+    → IsOk (entry_of op l.data_type t)
+entry_of-operands op left right t table l typed h right_typed =
+    let parts = typed_parts (type_of left (types_of table)) (rows_meaning left table) l h in
+    rw (parts.0, right_typed) at typed
 
 -- what all rows give of a step with a type, as a column
-typed_rows-at_rows : (t : DataType) (number : ℕ) (r : Result (List Cell) Cause)
+typed_rows-at_rows : (t : DataKind) (number : ℕ) (r : Result (List Cell) Cause)
     → typed_rows (Ok t) (at_rows number r) ≡ column_answer t r
 typed_rows-at_rows t number (Ok cells) = refl
 typed_rows-at_rows t number (Err cause) = refl
@@ -169,7 +181,7 @@ operand_outcome-columns op left right table l r typed own hl hr =
     (step_of op (Ok l.data_type) (Ok r.data_type)) l r one_length)
 
 -- a step on a column and a literal is what its kernel answers for a scalar
-pub operand_outcome-scalar : (op : Op) (left : Tree) (t : DataType) (c : Cell) (table : List Column)
+pub operand_outcome-scalar : (op : Op) (left : Tree) (t : DataKind) (c : Cell) (table : List Column)
     (l : Column) → IsOk (type_of (step op left (literal t c)) (types_of table))
     → operand_outcome left table ≡ Ok l
     → operand_outcome (step op left (literal t c)) table ≡ scalar_answer
@@ -220,16 +232,24 @@ UnlessMemory-weaker DivideByZero f h = f h
 UnlessMemory-weaker OutOfRange f h = f h
 UnlessMemory-weaker OutOfSpec f h = f h
 
+-- a step beside a null gives null
+typed_step-null : (op : Op) (t : Option WholeType) (a : Cell) → typed_step op t a null ≡ Ok null
+typed_step-null op None a = refl
+typed_step-null op (Some t) null = refl
+typed_step-null op (Some t) (whole n) = refl
+
 -- each row is null beside a null
-each_row-null : (op : Op) (s t : DataType) (cells : List Cell)
+each_row-null : (op : Op) (s t : DataKind) (cells : List Cell)
     → each_row (step_of op (Ok s) (Ok t)) cells (replicate (length cells) null) ≡ Ok
     (replicate (length cells) null)
 each_row-null op s t [] = refl
-each_row-null op s t (null ∷ cells) = rw (each_row-null op s t cells) refl
-each_row-null op s t (whole n ∷ cells) = rw (each_row-null op s t cells) refl
+each_row-null op s t (null ∷ cells) =
+    rw (typed_step-null op (whole_type_of s) null, each_row-null op s t cells) refl
+each_row-null op s t (whole n ∷ cells) =
+    rw (typed_step-null op (whole_type_of s) (whole n), each_row-null op s t cells) refl
 
 -- a step on a column and a null gives nulls
-pub scalar_answer-null : (op : Op) (s t : DataType) (l : Column)
+pub scalar_answer-null : (op : Op) (s t : DataKind) (l : Column)
     → scalar_answer (step_of op (Ok s) (Ok t)) l null ≡ Ok
     (record { data_type = l.data_type; cells = replicate (row_count l) null })
 scalar_answer-null op s t l = rw (each_row-null op s t l.cells) refl

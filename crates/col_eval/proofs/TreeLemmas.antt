@@ -1,7 +1,7 @@
 -- Facts on trees: their levels, their types, and which steps refuse a row.
 use Rattle.std.proofs.Common.{◌≡◌, ◌≢◌, ℕ, ◌+◌, ◌≤◌, List, Result, Ok, Err, IsOk, refl, arith}
 use Rattle.col_model.specs.Cell.{Cell, Cause}
-use Rattle.col_types.specs.declared.datatypes.DataType.{DataType}
+use Rattle.col_types.specs.DataKind.{DataKind}
 use Rattle.col_types.specs.declared.error.Error.{Error}
 use Rattle.col_array.specs.declared.any_scalar.AnyScalar.{AnyScalar}
 use Rattle.col_eval.specs.declared.expr.Op.{Op}
@@ -30,7 +30,7 @@ IsBelow-row_step m n s (cell x) (refused_at k c) ha hb = omega arith
 IsBelow-row_step m n s (refused_at k c) b ha hb = omega arith
 
 -- a tree refuses a row at one of its own steps
-pub IsBelow-row_meaning : (tree : Tree) (types : List DataType) (cells : List Cell)
+pub IsBelow-row_meaning : (tree : Tree) (types : List DataKind) (cells : List Cell)
     → IsBelow (step_count tree) (row_meaning tree types cells)
 IsBelow-row_meaning (column position) types cells = tt
 IsBelow-row_meaning (literal t c) types cells = tt
@@ -40,19 +40,19 @@ IsBelow-row_meaning (step op left right) types cells =
     (IsBelow-row_meaning right types cells)
 
 -- an operand that is no literal has its own type
-pub right_type-own : (e : Expr) (own : Result DataType Error) → ((s : AnyScalar) → e ≢ Literal s)
+pub right_type-own : (e : Expr) (own : Result DataKind Error) → ((s : AnyScalar) → e ≢ Literal s)
     → right_type (tree_of e) own ≡ own
 right_type-own (Column position) own h = refl
 right_type-own (Literal scalar) own h = absurd (h scalar refl)
 right_type-own (Step' op p left q right) own h = refl
 
 -- a step that has a type has a left operand with a type
-pub IsOk-left : (op : Op) (s t : Result DataType Error) → IsOk (step_type op s t) → IsOk s
+pub IsOk-left : (op : Op) (s t : Result DataKind Error) → IsOk (step_type op s t) → IsOk s
 IsOk-left op (Ok s) t h = refl
 IsOk-left op (Err e) t h = h
 
 -- and a right operand with a type
-pub IsOk-right : (op : Op) (s t : Result DataType Error) → IsOk (step_type op s t) → IsOk t
+pub IsOk-right : (op : Op) (s t : Result DataKind Error) → IsOk (step_type op s t) → IsOk t
 IsOk-right op (Ok s) (Ok t) h = refl
 IsOk-right op (Ok s) (Err e) h = h
 IsOk-right op (Err e) (Ok t) h = refl

@@ -1,12 +1,13 @@
 -- What a tree gives for one row, and for a table.
-use Rattle.std.specs.Prelude.{ℕ, ◌+◌, nat_le, if◌then◌else◌, List, [], ◌∷◌, map, slice_index_or, Result, Ok, Err}
+use Rattle.std.specs.Prelude.{ℕ, ◌+◌, nat_le, if◌then◌else◌, List, [], ◌∷◌, map, slice_index_or, Result, Ok, Err, Option, Some, None}
 use Rattle.std.specs.List.{range_with_len}
 use Rattle.col_model.specs.Cell.{Cell, null, Cause}
+use Rattle.col_model.specs.Whole.{WholeType}
 use Rattle.col_model.specs.WholeStep.{whole_step}
 use Rattle.col_types.specs.Answer.{error_of}
 use Rattle.col_types.specs.Column.{Column, row_at, table_row_count, types_of}
-use Rattle.col_types.specs.PhysicalType.{whole_type_of}
-use Rattle.col_types.specs.declared.datatypes.DataType.{DataType}
+use Rattle.col_types.specs.DataType.{whole_type_of}
+use Rattle.col_types.specs.DataKind.{DataKind}
 use Rattle.col_types.specs.declared.error.Error.{Error}
 use Rattle.col_eval.specs.declared.expr.Op.{Op}
 use Rattle.col_eval.specs.Entries.{operation_of, form_of}
@@ -18,11 +19,16 @@ pub data RowAnswer : Type 0 where
   cell : Cell → RowAnswer
   refused_at : ℕ → Cause → RowAnswer
 
+-- a step on two cells of whole numbers of a type; without such a type no row is asked
+abbrev pub typed_step : Op → Option WholeType → Cell → Cell → Result Cell Cause
+typed_step op (Some t) a b = whole_step (operation_of op) (form_of op) t a b
+typed_step op None a b = Ok null
+
 -- a step on two cells, by the types of its operands; an operand without a type leaves the tree
 -- without one, and then no row is asked
-abbrev pub step_of : Op → Result DataType Error → Result DataType Error → Cell → Cell
+abbrev pub step_of : Op → Result DataKind Error → Result DataKind Error → Cell → Cell
     → Result Cell Cause
-step_of op (Ok s) (Ok t) a b = whole_step (operation_of op) (form_of op) (whole_type_of s) a b
+step_of op (Ok s) (Ok t) a b = typed_step op (whole_type_of s) a b
 step_of op (Ok s) (Err e) a b = Ok null
 step_of op (Err e) t a b = Ok null
 
@@ -43,7 +49,7 @@ going_on (refused_at number cause) next = refused_at number cause
 
 -- the meaning of a tree for the cells of one row: left operand, right operand, then the step. Steps
 -- are numbered from 0 in that order, each behind those of its operands
-abbrev pub row_meaning : Tree → List DataType → List Cell → RowAnswer
+abbrev pub row_meaning : Tree → List DataKind → List Cell → RowAnswer
 row_meaning (column position) types cells = cell (slice_index_or cells position null)
 row_meaning (literal t c) types cells = cell c
 row_meaning (step op left right) types cells =
@@ -81,12 +87,12 @@ abbrev pub rows_of : List Column → List (List Cell)
 rows_of table = map (row_at table) (range_with_len 0 (table_row_count table))
 
 -- a column of the cells, or the error of the refusal's cause
-abbrev pub rows_column : DataType → RowsAnswer → Result Column Error
+abbrev pub rows_column : DataKind → RowsAnswer → Result Column Error
 rows_column t (all_cells cells) = Ok (record { data_type = t; cells = cells })
 rows_column t (refusal number cause) = Err (error_of cause)
 
 -- a typing refusal, else what the rows give together
-abbrev pub typed_rows : Result DataType Error → RowsAnswer → Result Column Error
+abbrev pub typed_rows : Result DataKind Error → RowsAnswer → Result Column Error
 typed_rows (Err e) rows = Err e
 typed_rows (Ok t) rows = rows_column t rows
 

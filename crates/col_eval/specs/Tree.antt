@@ -1,7 +1,7 @@
 -- Trees of steps over the columns of a table.
 use Rattle.std.specs.Prelude.{ℕ, ◌+◌, max}
 use Rattle.col_model.specs.Cell.{Cell}
-use Rattle.col_types.specs.declared.datatypes.DataType.{DataType}
+use Rattle.col_types.specs.DataKind.{DataKind}
 use Rattle.col_array.specs.Any.{scalar_cell, scalar_type}
 use Rattle.col_eval.specs.declared.expr.Op.{Op}
 use Rattle.col_eval.specs.declared.expr.Expr.{Expr, Column, Literal, Step'}
@@ -9,7 +9,7 @@ use Rattle.col_eval.specs.declared.expr.Expr.{Expr, Column, Literal, Step'}
 -- a tree: the column at a position, one cell of a type for all rows, or a step on two trees
 pub data Tree : Type 0 where
   column : ℕ → Tree
-  literal : DataType → Cell → Tree
+  literal : DataKind → Cell → Tree
   step : Op → Tree → Tree → Tree
 
 -- the tree that an expression is

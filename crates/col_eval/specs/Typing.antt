@@ -1,7 +1,7 @@
 -- The type of a tree over the types of a table's columns: rows are not looked at.
 use Rattle.std.specs.Prelude.{ℕ, nat_lt, if◌then◌else◌, List, slice_get, Result, Ok, Err}
 use Rattle.std.specs.Option.{ok_or}
-use Rattle.col_types.specs.declared.datatypes.DataType.{DataType}
+use Rattle.col_types.specs.DataKind.{DataKind}
 use Rattle.col_types.specs.declared.error.Error.{Error}
 use Rattle.col_types.specs.declared.error.Error.TheVariants.{InvalidArgumentError, NotYetImplemented}
 use Rattle.col_types.specs.declared.error.Reason.TheVariants.{Depth, Position}
@@ -14,26 +14,26 @@ abbrev pub max_levels : ℕ
 max_levels = 256
 
 -- a literal has a type as the right operand of a step; any other right operand has its own answer
-abbrev pub right_type : Tree → Result DataType Error → Result DataType Error
+abbrev pub right_type : Tree → Result DataKind Error → Result DataKind Error
 right_type (literal t c) own = Ok t
 right_type (column position) own = own
 right_type (step op left right) own = own
 
 -- the refusal of the left operand, else that of the right one, else the step's entry
-abbrev pub step_type : Op → Result DataType Error → Result DataType Error → Result DataType Error
+abbrev pub step_type : Op → Result DataKind Error → Result DataKind Error → Result DataKind Error
 step_type op (Err e) right = Err e
 step_type op (Ok s) (Err e) = Err e
 step_type op (Ok s) (Ok t) = entry_of op s t
 
 -- the type of a tree of any number of levels
-abbrev pub type_of : Tree → List DataType → Result DataType Error
+abbrev pub type_of : Tree → List DataKind → Result DataKind Error
 type_of (column position) types = ok_or (slice_get types position) (InvalidArgumentError Position)
 type_of (literal t c) types = Err NotYetImplemented
 type_of (step op left right) types =
     step_type op (type_of left types) (right_type right (type_of right types))
 
 -- the type of a tree: refused first where it has more than 256 levels
-abbrev pub typing_of : Tree → List DataType → Result DataType Error
+abbrev pub typing_of : Tree → List DataKind → Result DataKind Error
 typing_of tree types =
     if nat_lt max_levels (level_count tree) then Err (InvalidArgumentError Depth)
     else type_of tree types

@@ -7,6 +7,7 @@ ghost use Rattle.col_array.specs.Any.{any_column, scalar_cell, scalar_type};
 ghost use Rattle.col_eval.specs.Operand.{operand_column, operand_outcome};
 ghost use Rattle.col_eval.specs.Tree.{tree_of};
 ghost use Rattle.col_eval.specs.Typing.{type_of};
+ghost use Rattle.col_eval.specs.Entries.{entry_of};
 ghost use Rattle.col_eval.specs.Meaning.{outcome_of, step_of};
 
 use crate::expr::{Expr, Op};
@@ -69,6 +70,7 @@ fn lent<'a>(operand: &'a Either<&AnyArray, AnyArray>) -> &'a AnyArray
 
 // A step on two columns, row by row.
 fn step(alloc: Global, op: Op, lhs: &AnyArray, rhs: &AnyArray) -> Result<AnyArray, Error>
+    requires { IsOk (entry_of op (any_column lhs.now).data_type (any_column rhs.now).data_type) }
     ensures { Answers any_column result
         (kernel_answer
         (step_of op (Ok (any_column lhs.now).data_type) (Ok (any_column rhs.now).data_type))
@@ -87,6 +89,7 @@ fn step(alloc: Global, op: Op, lhs: &AnyArray, rhs: &AnyArray) -> Result<AnyArra
 
 // A step on a column and one value, row by row.
 fn step_scalar(alloc: Global, op: Op, lhs: &AnyArray, rhs: &AnyScalar) -> Result<AnyArray, Error>
+    requires { IsOk (entry_of op (any_column lhs.now).data_type (scalar_type rhs.now)) }
     ensures { Answers any_column result
         (scalar_answer (step_of op (Ok (any_column lhs.now).data_type) (Ok (scalar_type rhs.now)))
         (any_column lhs.now) (scalar_cell rhs.now)) }

@@ -21,8 +21,12 @@ impl Model for Table {
     ghost use Rattle.std.specs.Prelude.{◌≡◌, IsTrue, List, map};
     ghost use Rattle.col_types.specs.Column.{Column, is_table, table_row_count};
     ghost use Rattle.col_array.specs.Any.{any_column};
+    ghost use Rattle.std.specs.Coded.{codes};
+    ghost use Rattle.col_types.specs.KindCode.{kind_code};
 
     ghost Value = { List Column };
+
+    ghost coded = { Prim.hlevel (codes, kind_code) };
 
     ghost view = { λ a. map any_column a.columns.items };
 

@@ -2,6 +2,7 @@
 ghost use Rattle.std.specs.Prelude.{◌≡◌, ◌≤◌, ◌↔◌, IsTrue};
 ghost use Rattle.col_types.specs.Answer.{Answers};
 ghost use Rattle.col_types.specs.Column.{types_of};
+ghost use Rattle.col_types.specs.DataKind.{kind_of};
 ghost use Rattle.col_eval.specs.Entries.{entry_of};
 ghost use Rattle.col_eval.specs.Tree.{level_count, tree_of};
 ghost use Rattle.col_eval.specs.Typing.{type_of, typing_of};
@@ -17,9 +18,9 @@ const MAX_LEVELS: usize = 256;
 ///
 /// Refused, in this order: `Depth` where the tree has more than 256 levels; then, left operand
 /// first, operands before their step: `Position` where the table has no such column;
-/// `NotYetImplemented` where a literal is no right operand of a step.
+/// `NotYetImplemented` where a literal is no right operand of a step, or a step has no entry.
 pub fn typed_of(alloc: Global, table: &Table, tree: &Expr) -> Result<DataType, Error>
-    ensures answer { Answers (λ t. t) result (typing_of (tree_of tree.now) (types_of table.now)) }
+    ensures answer { Answers kind_of result (typing_of (tree_of tree.now) (types_of table.now)) }
 {
     if !is_within(tree, MAX_LEVELS) {
         return Err(Error::InvalidArgumentError(Reason::Depth));
@@ -42,7 +43,7 @@ fn is_within(tree: &Expr, levels: usize) -> bool
 
 // The type of a tree, however many levels it has.
 fn type_within(alloc: Global, table: &Table, tree: &Expr) -> Result<DataType, Error>
-    ensures { Answers (λ t. t) result (type_of (tree_of tree.now) (types_of table.now)) }
+    ensures { Answers kind_of result (type_of (tree_of tree.now) (types_of table.now)) }
 {
     match tree {
         Expr::Column(position) => {
@@ -67,9 +68,10 @@ fn type_within(alloc: Global, table: &Table, tree: &Expr) -> Result<DataType, Er
 
 // The type that a step gives for the types of its operands.
 fn entry(_op: Op, lhs: &DataType, rhs: &DataType) -> Result<DataType, Error>
-    ensures { result ≡ entry_of _op lhs.now rhs.now }
+    ensures { Answers kind_of result (entry_of _op (kind_of lhs.now) (kind_of rhs.now)) }
 {
     match (lhs, rhs) {
         (DataType::Int64, DataType::Int64) => Ok(DataType::Int64),
+        _ => Err(Error::NotYetImplemented),
     }
 }

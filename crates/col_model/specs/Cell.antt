@@ -9,3 +9,4 @@ pub data Cell : Type 0 where
 -- why a step refuses a row
 pub data Cause : Type 0 where
   overflow : Cause
+  divide_by_zero : Cause

@@ -1,3 +1,4 @@
+pub mod Bitwise
 pub mod Cell
 pub mod Whole
 pub mod WholeStep

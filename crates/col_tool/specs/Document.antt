@@ -2,6 +2,7 @@
 use Rattle.std.specs.Prelude.{ℕ, ◌^◌, ℤ, Bool, true, ◌&&◌, ◌||◌, ◌==◌, not, nat_lt, nat_le, if◌then◌else◌, List, [], ◌∷◌, length, slice_index, codes, is_some, Option, Some, None, option_map}
 use Rattle.std.specs.Str.{all_ascii_digits, bytes_eq, is_utf8}
 use Rattle.std.specs.Str.Parse.{digits_value, signed_digits_value, without_leading_sign}
+use Rattle.std.specs.Int.{w64}
 use Rattle.serde_json.specs.Data.{Data}
 use Rattle.serde_json.specs.Data as json
 use Rattle.serde_json.specs.Find.{get, as_array, as_i64, as_str}
@@ -9,9 +10,8 @@ use Rattle.serde_json.specs.Read.{read}
 use Rattle.col_model.specs.Cell.{Cell, null, whole}
 use Rattle.col_model.specs.Whole.{WholeType, signed, unsigned, is_fitting}
 use Rattle.col_types.specs.Column.{Column, is_table}
-use Rattle.col_types.specs.PhysicalType.{whole_type_of}
-use Rattle.col_types.specs.declared.datatypes.DataType.{DataType}
-use Rattle.col_types.specs.declared.datatypes.DataType.TheVariants.{Int64}
+use Rattle.col_types.specs.DataKind.{DataKind}
+use Rattle.col_types.specs.DataKind as kind
 use Rattle.col_eval.specs.Tree.{Tree, column, literal, step, level_count}
 use Rattle.col_eval.specs.Typing.{max_levels}
 use Rattle.col_eval.specs.declared.expr.Op.{Op}
@@ -45,7 +45,9 @@ is_shortest digits = is_digits digits && (length digits == 1 || not (slice_index
 abbrev pub position_named : List ℕ → Option ℕ
 position_named [] = None
 position_named (c ∷ digits) =
-    if c == 99 && is_shortest digits && nat_lt (digits_value 10 digits) (2 ^ 32) then Some (digits_value 10 digits) else None
+    if c == 99 && is_shortest digits && nat_lt (digits_value 10 digits) (2 ^ 32)
+    then Some (digits_value 10 digits)
+    else None
 
 -- the step of a name
 abbrev pub step_named : List ℕ → Option Op
@@ -54,22 +56,27 @@ step_named text =
     else (if bytes_eq text (codes "checked_add") then Some CheckedAdd else None)
 
 -- the type of a name
-abbrev pub type_named : List ℕ → Option DataType
-type_named text = if bytes_eq text (codes "Int64") then Some Int64 else None
+abbrev pub type_named : List ℕ → Option DataKind
+type_named text = if bytes_eq text (codes "Int64") then Some kind.int64 else None
 
 -- ---- cells and columns
 
--- a cell of a type: null, a whole number that fits, or a text that spells one
-abbrev pub cell_read : DataType → Data → Option Cell
-cell_read Int64 json.null = Some null
-cell_read Int64 (json.boolean b) = None
-cell_read Int64 (json.number n) = option_map whole (as_i64 n)
-cell_read Int64 (json.string text) = option_map whole (number_read (whole_type_of Int64) text)
-cell_read Int64 (json.array items) = None
-cell_read Int64 (json.object ms) = None
+-- a cell of 64 bits: null, a whole number that fits, or a text that spells one
+abbrev pub int64_read : Data → Option Cell
+int64_read json.null = Some null
+int64_read (json.boolean b) = None
+int64_read (json.number n) = option_map whole (as_i64 n)
+int64_read (json.string text) = option_map whole (number_read (signed w64) text)
+int64_read (json.array items) = None
+int64_read (json.object ms) = None
+
+-- a cell of a type; a type without a name has no cells
+abbrev pub cell_read : DataKind → Data → Option Cell
+cell_read kind.int64 d = int64_read d
+cell_read _ d = None
 
 -- the type that the member `type` names
-abbrev pub type_read : Data → Option DataType
+abbrev pub type_read : Data → Option DataKind
 type_read d = get (codes "type") d >>= as_str >>= type_named
 
 -- a column: an object with a type, and a list of cells of that type

@@ -8,4 +8,5 @@ pub mod Reading
 pub mod Run
 pub mod SinkState
 pub mod Status
+pub mod TypeText
 pub mod View

@@ -4,16 +4,11 @@ use Rattle.std.specs.Fmt.{signed_decimal}
 use Rattle.std.specs.List.{flat_map, join_with_byte, list_any}
 use Rattle.col_model.specs.Cell.{Cell, null, whole}
 use Rattle.col_types.specs.Column.{Column}
-use Rattle.col_types.specs.declared.datatypes.DataType.{DataType}
-use Rattle.col_types.specs.declared.datatypes.DataType.TheVariants.{Int64}
 use Rattle.col_types.specs.declared.error.Error.{Error}
 use Rattle.col_types.specs.declared.error.Error.TheVariants.{Memory, NotYetImplemented, InvalidArgumentError, Overflow, DivideByZero, OutOfRange, OutOfSpec}
 use Rattle.col_eval.specs.Meaning.{outcome_of}
 use Rattle.col_tool.specs.Document.{DocumentView}
-
--- the text of a type
-abbrev pub type_text : DataType → List ℕ
-type_text Int64 = codes "Int64"
+use Rattle.col_tool.specs.TypeText.{type_text}
 
 -- the text of a cell
 abbrev pub cell_text : Cell → List ℕ

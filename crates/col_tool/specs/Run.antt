@@ -70,7 +70,8 @@ TakesWithin ReadFault left rest = TakesAtMost left max_bytes rest
 
 -- the page is that of the document that was left
 abbrev pub IsPageOf : Option (List ℕ) → Option (List ℕ) → PageView → Type 0
-IsPageOf left rest page = (d : DocumentView) × ReadsAll left rest (λ bytes. document_of bytes ≡ Some d) × (page.text ≡ page_text d) × (page.has_error ≡ has_error_line d)
+IsPageOf left rest page = (d : DocumentView) × ReadsAll left rest (λ bytes. document_of bytes ≡ Some d)
+    × (page.text ≡ page_text d) × (page.has_error ≡ has_error_line d)
 
 -- why there is no page
 abbrev pub IsStopped : Option (List ℕ) → Option (List ℕ) → ℕ → ℕ → Status → Type 0

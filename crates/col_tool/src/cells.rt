@@ -1,7 +1,10 @@
 //! Cells and columns of a document.
-ghost use Rattle.std.specs.Prelude.{◌≡◌, IfOk, map, option_and_then, option_map, vec_len};
+ghost use Rattle.std.specs.Prelude.{◌≡◌, IfOk, IfSome, map, option_and_then, option_map, vec_len};
 ghost use Rattle.serde_json.specs.Find.{as_array, get};
 ghost use Rattle.serde_json.specs.View.{items_view, view};
+ghost use Rattle.col_types.specs.DataKind.{kind_of};
+ghost use Rattle.col_types.specs.DataType.{IsMadeOf};
+ghost use Rattle.col_types.specs.declared.datatypes.physical_type.PrimitiveType.TheVariants.{Int64};
 ghost use Rattle.col_array.specs.Any.{any_column};
 ghost use Rattle.col_array.specs.Parts.{cell_of, stored_cells};
 ghost use Rattle.col_tool.specs.Document.{cell_read, column_read, type_read};
@@ -43,7 +46,8 @@ pub fn take_list(alloc: Global, value: &mut Value, name: &str) -> Option<Vec<Val
 
 /// The type that the member `type` names.
 pub fn read_type(value: &Value) -> Option<DataType>
-    ensures { result ≡ type_read (view value.now) }
+    ensures value { option_map kind_of result ≡ type_read (view value.now) }
+    ensures made { IfSome result (λ data_type. IsMadeOf (kind_of data_type) Int64) }
 {
     read_type_name(value.get("type")?.as_str()?)
 }
@@ -51,7 +55,7 @@ pub fn read_type(value: &Value) -> Option<DataType>
 /// A cell of a type, as a slot: null, a whole number that fits, or a text that spells one.
 #[inline(always)]
 pub fn read_slot(data_type: &DataType, value: &Value) -> Option<Option<i64>>
-    ensures { option_map cell_of result ≡ cell_read data_type.now (view value.now) }
+    ensures { option_map cell_of result ≡ cell_read (kind_of data_type.now) (view value.now) }
 {
     match data_type {
         DataType::Int64 => match value {
@@ -60,6 +64,7 @@ pub fn read_slot(data_type: &DataType, value: &Value) -> Option<Option<i64>>
             Value::String(text) => read_number(text.as_str()).map(Some),
             _ => None,
         },
+        _ => None,
     }
 }
 
@@ -103,7 +108,7 @@ fn read_stored(
     values: Vec<Value>,
 ) -> Result<(Vec<i64>, Vec<bool>), ReadError>
     ensures cells { Reads (λ parts. stored_cells parts.1.items parts.0.items) result
-        (each (cell_read data_type.now) (items_view values.items)) }
+        (each (cell_read (kind_of data_type.now)) (items_view values.items)) }
     ensures one_length { IfOk result (λ parts. vec_len parts.0 ≡ vec_len parts.1) }
 {
     let mut numbers = Vec::with_capacity(alloc, values.len())?;

@@ -15,6 +15,7 @@ mod tests;
 mod texts;
 mod transfer;
 mod trees;
+mod type_texts;
 
 use command::run;
 use sink::WriteSink;

@@ -7,13 +7,15 @@ ghost use Rattle.col_array.specs.Any.{any_column};
 ghost use Rattle.col_eval.specs.Meaning.{outcome_of};
 ghost use Rattle.col_eval.specs.Tree.{tree_of};
 ghost use Rattle.col_tool.specs.Page.{cell_text, cells_text, error_name, has_error_line, line_text, page_text};
-ghost use Rattle.col_tool.specs.Page.{IsLine, comma_before, type_text};
+ghost use Rattle.col_tool.specs.Page.{IsLine, comma_before};
+ghost use Rattle.col_tool.specs.TypeText.{type_text};
 ghost use Rattle.col_tool.specs.View.{document_view};
 
 use crate::document::Document;
+use crate::type_texts::push_type;
 use col_array::{AnyArray, PrimitiveArray};
 use col_eval::{Expr, Table, evaluate};
-use col_types::{DataType, Error};
+use col_types::Error;
 use itoa::Buffer;
 use std::alloc::Global;
 use std::marker::Model;
@@ -83,7 +85,8 @@ fn push_line(alloc: Global, text: &mut Vec<u8>, table: &Table, tree: &Expr) -> R
 
 // Adds the line of a refusal.
 fn push_error(text: &mut Vec<u8>, error: Error) -> Result<(), Error>
-    ensures line { IfOk result (λ _. text.new.items ≡ text.old.items ++ (codes "error " ++ error_name error ++ codes "\n")) }
+    ensures line { IfOk result (λ _. text.new.items
+        ≡ text.old.items ++ (codes "error " ++ error_name error ++ codes "\n")) }
     ensures refused { FailsByMemory result }
 {
     text.extend_from_slice(b"error ")?;
@@ -110,25 +113,17 @@ fn variant_name(error: Error) -> &'static str
 // Adds the line of a column.
 fn push_column(text: &mut Vec<u8>, column: &AnyArray) -> Result<(), Error>
     ensures line { IfOk result (λ _. text.new.items
-        ≡ text.old.items ++ (type_text (any_column column.now).data_type ++ codes " " ++ cells_text (any_column column.now).cells ++ codes "\n")) }
+        ≡ text.old.items ++ (type_text (any_column column.now).data_type ++ codes " "
+        ++ cells_text (any_column column.now).cells ++ codes "\n")) }
     ensures refused { FailsByMemory result }
 {
-    text.extend_from_slice(type_name(column.data_type()).as_bytes())?;
+    push_type(text, column.data_type())?;
     text.push(b' ')?;
     match column {
         AnyArray::Int64(array) => push_cells(text, array)?,
     }
     text.push(b'\n')?;
     Ok(())
-}
-
-// The text of a type.
-fn type_name(data_type: &DataType) -> &'static str
-    ensures { result.now ≡ type_text data_type.now }
-{
-    match data_type {
-        DataType::Int64 => "Int64",
-    }
 }
 
 // Adds the cells in brackets, joined by commas.

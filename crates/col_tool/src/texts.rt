@@ -1,9 +1,12 @@
 //! What the texts of a document name.
 ghost use Rattle.std.specs.Prelude.{◌≡◌, ◌&&◌, ◌||◌, ◌==◌, ◌^◌, Some, None};
-ghost use Rattle.std.specs.Prelude.{if◌then◌else◌, length, nat_lt, not, slice_index};
+ghost use Rattle.std.specs.Prelude.{IfSome, if◌then◌else◌, length, nat_lt, not, option_map, slice_index};
 ghost use Rattle.std.specs.Str.Parse.{digits_value};
-ghost use Rattle.col_types.specs.declared.datatypes.DataType.TheVariants.{Int64};
-ghost use Rattle.col_types.specs.PhysicalType.{whole_type_of};
+ghost use Rattle.std.specs.Int.{w64};
+ghost use Rattle.col_model.specs.Whole.{signed};
+ghost use Rattle.col_types.specs.DataKind.{kind_of};
+ghost use Rattle.col_types.specs.DataType.{IsMadeOf};
+ghost use Rattle.col_types.specs.declared.datatypes.physical_type.PrimitiveType.TheVariants.{Int64};
 ghost use Rattle.col_tool.specs.Document.{is_shortest, number_read, position_named};
 ghost use Rattle.col_tool.specs.Document.{step_named, type_named};
 
@@ -13,7 +16,7 @@ use col_types::DataType;
 /// The number of 64 bits that a text spells: a sign or none, then digits; `None` where it spells
 /// none, or one that does not fit.
 pub fn read_number(text: &str) -> Option<i64>
-    ensures { result ≡ number_read (whole_type_of Int64) text.now }
+    ensures { result ≡ number_read (signed w64) text.now }
 {
     text.parse::<i64>().ok()
 }
@@ -41,7 +44,8 @@ pub fn read_step(text: &str) -> Option<Op>
 
 /// The type of a name.
 pub fn read_type_name(text: &str) -> Option<DataType>
-    ensures { result ≡ type_named text.now }
+    ensures value { option_map kind_of result ≡ type_named text.now }
+    ensures made { IfSome result (λ data_type. IsMadeOf (kind_of data_type) Int64) }
 {
     match text {
         "Int64" => Some(DataType::Int64),

@@ -1,6 +1,6 @@
 -- What a call that may want memory answers.
 use Rattle.std.specs.Prelude.{◌≡◌, ◌↔◌, Result, Ok, Err, ⊤}
-use Rattle.col_model.specs.Cell.{Cause, overflow}
+use Rattle.col_model.specs.Cell.{Cause, overflow, divide_by_zero}
 use Rattle.col_types.specs.declared.error.Error.{Error}
 use Rattle.col_types.specs.declared.error.Error.TheVariants.{Memory, NotYetImplemented, InvalidArgumentError, Overflow, DivideByZero, OutOfRange, OutOfSpec}
 
@@ -36,6 +36,7 @@ FailsByMemory (Err e) = e ≡ Memory
 -- the error that a call answers for a row's cause
 abbrev pub error_of : Cause → Error
 error_of overflow = Overflow
+error_of divide_by_zero = DivideByZero
 
 -- a row's cause as the error that a call answers
 abbrev pub as_errors : {X : Type 0} → Result X Cause → Result X Error

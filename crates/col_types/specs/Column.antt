@@ -3,7 +3,7 @@ use Rattle.std.specs.Prelude.{ℕ, Bool, ◌==◌, if◌then◌else◌, List, []
 use Rattle.std.specs.List.{list_all}
 use Rattle.col_model.specs.Cell.{Cell, null, Cause}
 use Rattle.col_model.specs.WholeStep.{each_row}
-use Rattle.col_types.specs.declared.datatypes.DataType.{DataType}
+use Rattle.col_types.specs.DataKind.{DataKind}
 use Rattle.col_types.specs.declared.error.Error.{Error}
 use Rattle.col_types.specs.declared.error.Error.TheVariants.{InvalidArgumentError}
 use Rattle.col_types.specs.declared.error.Reason.TheVariants.{Lengths}
@@ -11,7 +11,7 @@ use Rattle.col_types.specs.Answer.{error_of}
 
 -- a column: its type, and a cell for each row
 pub record Column : Type 0 where
-  pub data_type : DataType
+  pub data_type : DataKind
   pub cells : List Cell
 
 abbrev pub row_count : Column → ℕ
@@ -27,7 +27,7 @@ abbrev pub is_table : List Column → Bool
 is_table columns = list_all (λ c. row_count c == table_row_count columns) columns
 
 -- the types of the columns, in their order
-abbrev pub types_of : List Column → List DataType
+abbrev pub types_of : List Column → List DataKind
 types_of columns = map (λ c. c.data_type) columns
 
 -- the cells of one row, a cell for each column
@@ -35,7 +35,7 @@ abbrev pub row_at : List Column → ℕ → List Cell
 row_at columns row = map (λ c. slice_index_or c.cells row null) columns
 
 -- a column of the cells, or the error of the cause
-abbrev pub column_answer : DataType → Result (List Cell) Cause → Result Column Error
+abbrev pub column_answer : DataKind → Result (List Cell) Cause → Result Column Error
 column_answer t (Ok cells) = Ok (record { data_type = t; cells = cells })
 column_answer t (Err cause) = Err (error_of cause)
 

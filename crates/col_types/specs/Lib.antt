@@ -1,7 +1,12 @@
+pub use Rattle.col_model.specs.Bitwise
 pub use Rattle.col_model.specs.Cell
 pub use Rattle.col_model.specs.Whole
 pub use Rattle.col_model.specs.WholeStep
 pub mod Answer
 pub mod Column
+pub mod DataKind
+pub mod DataType
 pub mod ErrorNumber
-pub mod PhysicalType
+pub mod KindCode
+pub mod NativeFields
+pub mod UnitNumber

@@ -6,7 +6,13 @@ mod error;
 mod native;
 #[cfg(test)]
 mod tests;
+mod text;
+mod types;
 
-pub use datatypes::{DataType, PrimitiveType};
+pub use datatypes::{
+    DataType, Field, IntegerType, IntervalUnit, PhysicalType, PrimitiveType, TimeUnit,
+};
 pub use error::{Error, Reason};
-pub use native::NativeType;
+pub use native::{DictionaryKey, NativeArithmetics, NativeNegate, NativeType, NativeWhole, Offset};
+pub use text::Text;
+pub use types::{days_ms, months_days_ns};

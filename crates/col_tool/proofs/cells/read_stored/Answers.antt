@@ -3,6 +3,7 @@ use Rattle.std.proofs.lemmas.Grind.{common_steps}
 use Rattle.std.proofs.lemmas.Int.{to_z-of_z}
 use Rattle.std.specs.Int.{w64}
 use mir.Val.{SFits}
+use Rattle.col_types.specs.DataKind.{kind_of}
 use Rattle.col_tool.specs.Document.{cell_read}
 use Rattle.col_tool.proofs.StoredCells.{stored-next}
 use Rattle.col_tool.proofs.cells.read_stored.Goals as goal
@@ -14,7 +15,7 @@ loop-value-preserved-in_ok-push-2 c =
       one_length = grind (arith, common_steps);
       done =
           rw (c.in_ok-push-2.ensures.items, c.in_ok-push.ensures.items, to_z-of_z w64 c.unwrap_or.result fits, c.unwrap_or.ensures, c.is_some.ensures)
-          (stored-next (cell_read c.args.data_type.now) c.args.values.items _ _ c.in-Some.value c.loop-value.validity.items c.loop-value.numbers.items c.in-Some-read_slot.slot c.loop-value.invariant.one_length c.in-Some.ensures.steps.0 c.in-Some-read_slot.ensures c.loop-value.invariant.done);
+          (stored-next (cell_read (kind_of c.args.data_type.now)) c.args.values.items _ _ c.in-Some.value c.loop-value.validity.items c.loop-value.numbers.items c.in-Some-read_slot.slot c.loop-value.invariant.one_length c.in-Some.ensures.steps.0 c.in-Some-read_slot.ensures c.loop-value.invariant.done);
     }
 
 pub loop-value-preserved : goal.loop-value-preserved
@@ -24,5 +25,5 @@ loop-value-preserved c =
       one_length = grind (arith, common_steps);
       done =
           rw (c.in_ok-push-2.ensures.items, c.in_ok-push.ensures.items, to_z-of_z w64 c.unwrap_or.result fits, c.unwrap_or.ensures, c.is_some.ensures)
-          (stored-next (cell_read c.args.data_type.now) c.args.values.items _ _ c.in-Some.value c.loop-value.validity.items c.loop-value.numbers.items c.in-Some-read_slot.slot c.loop-value.invariant.one_length c.in-Some.ensures.steps.0 c.in-Some-read_slot.ensures c.loop-value.invariant.done);
+          (stored-next (cell_read (kind_of c.args.data_type.now)) c.args.values.items _ _ c.in-Some.value c.loop-value.validity.items c.loop-value.numbers.items c.in-Some-read_slot.slot c.loop-value.invariant.one_length c.in-Some.ensures.steps.0 c.in-Some-read_slot.ensures c.loop-value.invariant.done);
     }

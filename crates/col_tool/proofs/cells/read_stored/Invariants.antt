@@ -2,6 +2,7 @@ use Rattle.std.proofs.Common.{◌≡◌, length}
 use Rattle.std.specs.Vec.Iter.{into_iter_items}
 use Rattle.serde_json.specs.View.{items_view}
 use Rattle.col_array.specs.Parts.{stored_cells}
+use Rattle.col_types.specs.DataKind.{kind_of}
 use Rattle.col_tool.specs.Document.{cell_read}
 use Rattle.col_tool.specs.Json.{each}
 use Rattle.col_tool.proofs.Lists.{front}
@@ -11,6 +12,6 @@ abbrev pub invariant-loop-value : goal.invariant-loop-value
 invariant-loop-value l = record {
   one_length : length l.validity.items ≡ length l.numbers.items;
   done :
-      front (stored_cells l.validity.items l.numbers.items) (each (cell_read l.data_type) (items_view (into_iter_items l.value-iterator)))
-      ≡ each (cell_read l.data_type) (items_view l.fn.values.items);
+      front (stored_cells l.validity.items l.numbers.items) (each (cell_read (kind_of l.data_type)) (items_view (into_iter_items l.value-iterator)))
+      ≡ each (cell_read (kind_of l.data_type)) (items_view l.fn.values.items);
 }

@@ -6,6 +6,6 @@ use Rattle.col_array.proofs.primitive.PrimitiveArray+i64.len.Goals as goal
 
 pub returns : goal.returns
 returns c =
-    let cells = length-stored_cells c.self.inside.validity.items c.self.inside.values.items c.self.invariant in
+    let cells = length-stored_cells c.self.inside.validity.items c.self.inside.values.items c.self.invariant.1 in
     let seen = ap (λ (p : PrimitiveParts ℤ). row_count (column_of p)) c.self.view_is in
     omega arith

@@ -4,4 +4,4 @@ use Rattle.col_array.proofs.primitive.PrimitiveArray+i64.null_count.Goals as goa
 
 pub returns : goal.returns
 returns c =
-    rw (← c.self.view_is) (c.unset_count.ensures ∙ rw c.as_slice.ensures.value (count_by-null_count c.self.inside.validity.items c.self.inside.values.items c.self.invariant))
+    rw (← c.self.view_is) (c.unset_count.ensures ∙ rw c.as_slice.ensures.value (count_by-null_count c.self.inside.validity.items c.self.inside.values.items c.self.invariant.1))

@@ -1,4 +1,4 @@
-use Rattle.std.proofs.Common.{replicate, rules}
+use Rattle.std.proofs.Common.{refl, replicate, rules}
 use Rattle.std.proofs.lemmas.Int.{to_z-of_z}
 use mir.Val.{SFits}
 use Rattle.col_model.specs.Cell.{whole}
@@ -14,4 +14,4 @@ use Rattle.col_basic.proofs.basic.add.add_scalar.Goals as goal
 pub returns-clause-overflow : goal.returns-clause-overflow
 returns-clause-overflow c =
     let fits : SFits w64 c.args.rhs.now = search rules in
-    refused_where column_of c.added_slot.result Overflow _ _ (rows_overflow addition (signed w64) (column_of c.args.lhs.now).data_type (column_of c.args.lhs.now).cells (replicate (row_count (column_of c.args.lhs.now)) (whole c.args.rhs.now))) (simp (to_z-of_z w64 c.args.rhs.now fits) at c.added_slot.ensures.answer)
+    refused_where column_of c.added_slot.result Overflow _ _ (rows_overflow addition (signed w64) (column_of c.args.lhs.now).data_type (column_of c.args.lhs.now).cells (replicate (row_count (column_of c.args.lhs.now)) (whole c.args.rhs.now)) (λ b. refl)) (simp (to_z-of_z w64 c.args.rhs.now fits) at c.added_slot.ensures.answer)

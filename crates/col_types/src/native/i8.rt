@@ -1,0 +1,162 @@
+//! The native type `i8`.
+ghost use Rattle.std.specs.Prelude.{◌-◌, ◌^◌, [], ◌∷◌, pos, negsuc, refl};
+ghost use Rattle.std.specs.Int.{w8};
+ghost use Rattle.std.proofs.Common.{rules};
+ghost use Rattle.col_model.specs.Whole.{signed};
+ghost use Rattle.col_types.specs.declared.datatypes.IntegerType.TheVariants as key;
+ghost use Rattle.col_types.specs.declared.datatypes.physical_type.PrimitiveType.TheVariants.{Int8};
+
+use crate::datatypes::{DataType, IntegerType, PhysicalType, PrimitiveType};
+use crate::native::{DictionaryKey, NativeArithmetics, NativeNegate, NativeType, NativeWhole};
+
+impl NativeType for i8 {
+    ghost numbers = { λ n. n ∷ [] };
+
+    ghost field_types = { signed w8 ∷ [] };
+
+    const PRIMITIVE: PrimitiveType = PrimitiveType::Int8;
+
+    ghost PRIMITIVE = { Int8 };
+
+    fn zero() -> i8 {
+        0
+    }
+
+    fn is_of(t: &DataType) -> bool {
+        t.to_physical_type() == PhysicalType::Primitive(PrimitiveType::Int8)
+    }
+
+    ghost fields_law = { refl };
+
+    ghost numbers_law = { λ x. refl };
+
+    ghost one_value_law = { Prim.search rules };
+
+    ghost same_law = { Prim.search rules };
+}
+
+#[tactic(auto, using(crate::proofs::WholeLemmas::signed_answers))]
+impl NativeWhole for i8 {
+    ghost value = { λ n. n };
+
+    ghost whole_type = { signed w8 };
+
+    fn to_i128(self) -> i128 {
+        self as i128
+    }
+
+    fn from_i128(n: i128) -> Option<i8> {
+        i8::try_from(n).ok()
+    }
+
+    fn bit_or(self, rhs: i8) -> i8 {
+        self | rhs
+    }
+
+    fn bit_xor(self, rhs: i8) -> i8 {
+        self ^ rhs
+    }
+
+    fn bit_and(self, rhs: i8) -> i8 {
+        self & rhs
+    }
+
+    fn bit_not(self) -> i8 {
+        !self
+    }
+
+    ghost value_law = { λ x. refl };
+
+    ghost whole_type_law = { refl };
+}
+
+#[tactic(auto, using(crate::proofs::WholeLemmas::signed_answers))]
+impl NativeArithmetics for i8 {
+    const WIDTH: u32 = 8;
+
+    ghost WIDTH = { 8 };
+
+    const MIN_VALUE: i8 = i8::MIN;
+
+    ghost MIN_VALUE = { negsuc (2 ^ 7 - 1) };
+
+    const MAX_VALUE: i8 = i8::MAX;
+
+    ghost MAX_VALUE = { pos (2 ^ 7 - 1) };
+
+    fn add_checked(self, rhs: i8) -> Option<i8> {
+        self.checked_add(rhs)
+    }
+
+    fn sub_checked(self, rhs: i8) -> Option<i8> {
+        self.checked_sub(rhs)
+    }
+
+    fn mul_checked(self, rhs: i8) -> Option<i8> {
+        self.checked_mul(rhs)
+    }
+
+    fn div_checked(self, rhs: i8) -> Option<i8> {
+        self.checked_div(rhs)
+    }
+
+    fn rem_checked(self, rhs: i8) -> Option<i8> {
+        self.checked_rem(rhs)
+    }
+
+    fn add_wrapped(self, rhs: i8) -> i8 {
+        self.wrapping_add(rhs)
+    }
+
+    fn sub_wrapped(self, rhs: i8) -> i8 {
+        self.wrapping_sub(rhs)
+    }
+
+    fn mul_wrapped(self, rhs: i8) -> i8 {
+        self.wrapping_mul(rhs)
+    }
+
+    fn add_clamped(self, rhs: i8) -> i8 {
+        self.saturating_add(rhs)
+    }
+
+    fn sub_clamped(self, rhs: i8) -> i8 {
+        self.saturating_sub(rhs)
+    }
+
+    fn mul_clamped(self, rhs: i8) -> i8 {
+        self.saturating_mul(rhs)
+    }
+
+    ghost width_law = { refl };
+
+    ghost least_law = { refl };
+
+    ghost greatest_law = { refl };
+}
+
+impl NativeNegate for i8 {
+    fn neg_checked(self) -> Option<i8> {
+        self.checked_neg()
+    }
+
+    fn neg_wrapped(self) -> i8 {
+        self.wrapping_neg()
+    }
+}
+
+impl DictionaryKey for i8 {
+    const KEY_TYPE: IntegerType = IntegerType::Int8;
+
+    ghost KEY_TYPE = { key.Int8 };
+
+    fn to_place(self) -> Option<usize> {
+        usize::try_from(self).ok()
+    }
+
+    fn from_place(n: usize) -> Option<i8> {
+        i8::try_from(n).ok()
+    }
+
+    ghost key_type_law = { refl };
+}

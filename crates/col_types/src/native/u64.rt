@@ -1,0 +1,161 @@
+//! The native type `u64`.
+ghost use Rattle.std.specs.Prelude.{◌-◌, ◌^◌, [], ◌∷◌, pos, refl};
+ghost use Rattle.std.specs.Int.{w64};
+ghost use Rattle.std.proofs.Common.{rules};
+ghost use Rattle.col_model.specs.Whole.{unsigned};
+ghost use Rattle.col_types.specs.declared.datatypes.IntegerType.TheVariants as key;
+ghost use Rattle.col_types.specs.declared.datatypes.physical_type.PrimitiveType.TheVariants.{UInt64};
+
+use crate::datatypes::{DataType, IntegerType, PhysicalType, PrimitiveType};
+use crate::native::{DictionaryKey, NativeArithmetics, NativeNegate, NativeType, NativeWhole};
+
+impl NativeType for u64 {
+    ghost numbers = { λ n. pos n ∷ [] };
+
+    ghost field_types = { unsigned w64 ∷ [] };
+
+    const PRIMITIVE: PrimitiveType = PrimitiveType::UInt64;
+
+    ghost PRIMITIVE = { UInt64 };
+
+    fn zero() -> u64 {
+        0
+    }
+
+    fn is_of(t: &DataType) -> bool {
+        t.to_physical_type() == PhysicalType::Primitive(PrimitiveType::UInt64)
+    }
+
+    ghost fields_law = { refl };
+
+    ghost numbers_law = { λ x. refl };
+
+    ghost one_value_law = { Prim.search rules };
+
+    ghost same_law = { Prim.search rules };
+}
+
+#[tactic(auto, using(crate::proofs::WholeLemmas::unsigned_answers))]
+impl NativeWhole for u64 {
+    ghost value = { pos };
+
+    ghost whole_type = { unsigned w64 };
+
+    fn to_i128(self) -> i128 {
+        self as i128
+    }
+
+    fn from_i128(n: i128) -> Option<u64> {
+        u64::try_from(n).ok()
+    }
+
+    fn bit_or(self, rhs: u64) -> u64 {
+        self | rhs
+    }
+
+    fn bit_xor(self, rhs: u64) -> u64 {
+        self ^ rhs
+    }
+
+    fn bit_and(self, rhs: u64) -> u64 {
+        self & rhs
+    }
+
+    fn bit_not(self) -> u64 {
+        !self
+    }
+
+    ghost value_law = { λ x. refl };
+
+    ghost whole_type_law = { refl };
+}
+
+impl NativeArithmetics for u64 {
+    const WIDTH: u32 = 64;
+
+    ghost WIDTH = { 64 };
+
+    const MIN_VALUE: u64 = u64::MIN;
+
+    ghost MIN_VALUE = { 0 };
+
+    const MAX_VALUE: u64 = u64::MAX;
+
+    ghost MAX_VALUE = { 2 ^ 64 - 1 };
+
+    fn add_checked(self, rhs: u64) -> Option<u64> {
+        self.checked_add(rhs)
+    }
+
+    fn sub_checked(self, rhs: u64) -> Option<u64> {
+        self.checked_sub(rhs)
+    }
+
+    fn mul_checked(self, rhs: u64) -> Option<u64> {
+        self.checked_mul(rhs)
+    }
+
+    fn div_checked(self, rhs: u64) -> Option<u64> {
+        self.checked_div(rhs)
+    }
+
+    fn rem_checked(self, rhs: u64) -> Option<u64> {
+        self.checked_rem(rhs)
+    }
+
+    fn add_wrapped(self, rhs: u64) -> u64 {
+        self.wrapping_add(rhs)
+    }
+
+    fn sub_wrapped(self, rhs: u64) -> u64 {
+        self.wrapping_sub(rhs)
+    }
+
+    fn mul_wrapped(self, rhs: u64) -> u64 {
+        self.wrapping_mul(rhs)
+    }
+
+    fn add_clamped(self, rhs: u64) -> u64 {
+        self.saturating_add(rhs)
+    }
+
+    fn sub_clamped(self, rhs: u64) -> u64 {
+        self.saturating_sub(rhs)
+    }
+
+    fn mul_clamped(self, rhs: u64) -> u64 {
+        self.saturating_mul(rhs)
+    }
+
+    ghost width_law = { refl };
+
+    ghost least_law = { refl };
+
+    ghost greatest_law = { refl };
+}
+
+impl NativeNegate for u64 {
+    fn neg_checked(self) -> Option<u64> {
+        self.checked_neg()
+    }
+
+    fn neg_wrapped(self) -> u64 {
+        self.wrapping_neg()
+    }
+}
+
+impl DictionaryKey for u64 {
+    const KEY_TYPE: IntegerType = IntegerType::UInt64;
+
+    ghost KEY_TYPE = { key.UInt64 };
+
+    fn to_place(self) -> Option<usize> {
+        usize::try_from(self).ok()
+    }
+
+    fn from_place(n: usize) -> Option<u64> {
+        u64::try_from(n).ok()
+    }
+
+    ghost key_type_law = { refl };
+}
