@@ -85,6 +85,7 @@ fn has_numbers<T: NativeWhole>(least: i128, greatest: i128) -> bool {
     let ends_below = least == i128::MIN || kept::<T>(least.wrapping_sub(1)) == None;
     let ends_above = greatest == i128::MAX || kept::<T>(greatest.wrapping_add(1)) == None;
     let mut fits = ends_below && ends_above && kept::<T>(-1) == below_zero;
+    fits = fits && T::zero().to_i128() == 0;
     for n in [least, least.wrapping_add(1), 0, 1, greatest] {
         fits = fits && kept::<T>(n) == Some(n);
     }
@@ -175,6 +176,7 @@ fn negatives<T: NativeWhole + NativeNegate>(least: i128, greatest: i128) -> [boo
         [
             (least, None, least),
             (next, Some(greatest), greatest),
+            (-1, Some(1), 1),
             (0, Some(0), 0),
             (1, Some(-1), -1),
             (greatest, Some(next), next),
@@ -184,6 +186,7 @@ fn negatives<T: NativeWhole + NativeNegate>(least: i128, greatest: i128) -> [boo
             (0, Some(0), 0),
             (1, None, greatest),
             (2, None, greatest.wrapping_sub(1)),
+            (3, None, greatest.wrapping_sub(2)),
             (greatest.wrapping_sub(1), None, 2),
             (greatest, None, 1),
         ]
@@ -205,11 +208,15 @@ fn negatives<T: NativeWhole + NativeNegate>(least: i128, greatest: i128) -> [boo
 fn an_offset_is_a_place_where_it_is_not_negative(rt: HostRuntime) {
     let cases = [
         (place_of::<i32>(-2147483648), None),
+        (place_of::<i32>(-2147483647), None),
         (place_of::<i32>(-1), None),
         (place_of::<i32>(0), Some(0)),
+        (place_of::<i32>(1), Some(1)),
         (place_of::<i32>(2147483647), Some(2147483647)),
         (place_of::<i64>(-9223372036854775808), None),
+        (place_of::<i64>(-9223372036854775807), None),
         (place_of::<i64>(-1), None),
+        (place_of::<i64>(0), Some(0)),
         (place_of::<i64>(1), Some(1)),
         (
             place_of::<i64>(9223372036854775807),
@@ -255,11 +262,11 @@ fn a_key_is_a_place_where_it_is_not_negative(rt: HostRuntime) {
     assert_eq!(rt; u64::KEY_TYPE, IntegerType::UInt64);
 }
 
-// The name of a key type; whether it has the place `greatest` and gives it back, whether it has no
-// place behind it, and whether its least number is a place.
+// The name of a key type; whether it has the places 0, 1 and `greatest`, whether it has no place
+// behind that, and whether its least number is a place.
 fn key_of<T: DictionaryKey>(greatest: usize) -> (IntegerType, [bool; 3]) {
     let has_greatest = match T::from_place(greatest) {
-        Some(key) => key.to_place() == Some(greatest),
+        Some(key) => key.to_place() == Some(greatest) && T::MAX_VALUE.to_place() == Some(greatest),
         None => false,
     };
     let has_more = match T::from_place(greatest.wrapping_add(1)) {
@@ -268,6 +275,23 @@ fn key_of<T: DictionaryKey>(greatest: usize) -> (IntegerType, [bool; 3]) {
     };
     (
         T::KEY_TYPE,
-        [has_greatest, !has_more, T::MIN_VALUE.to_place() == Some(0)],
+        [
+            has_greatest && has_low_places::<T>(),
+            !has_more,
+            T::MIN_VALUE.to_place() == Some(0),
+        ],
     )
+}
+
+// Whether 0 and 1 are places, and -1 is none.
+fn has_low_places<T: DictionaryKey>() -> bool {
+    let mut same = true;
+    for (n, wanted) in [(-1, None), (0, Some(0)), (1, Some(1))] {
+        let place = match T::from_i128(n) {
+            Some(key) => key.to_place(),
+            None => None,
+        };
+        same = same && place == wanted;
+    }
+    same
 }
