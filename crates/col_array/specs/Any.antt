@@ -2,7 +2,7 @@
 use Rattle.col_model.specs.Cell.{Cell}
 use Rattle.col_types.specs.DataKind.{DataKind}
 use Rattle.col_types.specs.Column.{Column}
-use Rattle.col_array.specs.Parts.{column_of, cell_of}
+use Rattle.col_flat.specs.Parts.{column_of, cell_of}
 use Rattle.col_array.specs.declared.any.AnyArray.{AnyArray}
 use Rattle.col_array.specs.declared.any.AnyArray.TheVariants as array
 use Rattle.col_array.specs.declared.any_scalar.AnyScalar.{AnyScalar}

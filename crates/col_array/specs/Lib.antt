@@ -1,4 +1,4 @@
 pub use Rattle.col_types.specs.Answer
 pub use Rattle.col_types.specs.Column
-pub mod Parts
+pub use Rattle.col_flat.specs.Parts
 pub mod Any

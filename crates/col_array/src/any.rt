@@ -7,10 +7,10 @@ ghost use Rattle.col_types.specs.declared.datatypes.physical_type.PrimitiveType.
 ghost use Rattle.col_types.specs.Answer.{ButForMemory, FailsByMemory, UnlessMemory};
 ghost use Rattle.col_types.specs.Column.{row_count};
 ghost use Rattle.col_array.specs.Any.{any_column};
-ghost use Rattle.col_array.specs.Parts.{null_count_of};
+ghost use Rattle.col_flat.specs.Parts.{null_count_of};
 ghost use Rattle.col_array.specs.declared.any.AnyArray.TheVariants.{Int64};
 
-use crate::primitive::PrimitiveArray;
+use col_flat::PrimitiveArray;
 use col_types::{DataType, Error};
 use std::alloc::Global;
 

@@ -7,7 +7,7 @@ ghost use Rattle.col_types.specs.declared.datatypes.physical_type.PrimitiveType.
 ghost use Rattle.col_types.specs.Answer.{FailsByMemory};
 ghost use Rattle.col_array.specs.Any.{scalar_cell, scalar_type};
 
-use crate::scalar::PrimitiveScalar;
+use col_flat::PrimitiveScalar;
 use col_types::{DataType, Error};
 use std::alloc::Global;
 

@@ -3,5 +3,5 @@ pub use Rattle.col_model.specs.Whole
 pub use Rattle.col_model.specs.WholeStep
 pub use Rattle.col_types.specs.Answer
 pub use Rattle.col_types.specs.Column
-pub use Rattle.col_array.specs.Parts
+pub use Rattle.col_flat.specs.Parts
 pub mod Forms

@@ -1,6 +1,6 @@
 //! What no clause shows: that calls succeed, on rows whose sums are known.
 use crate::{add, add_scalar, checked_add, checked_add_scalar};
-use col_array::PrimitiveArray;
+use col_flat::PrimitiveArray;
 use col_types::{DataType, Error, Reason};
 use std::alloc::Global;
 

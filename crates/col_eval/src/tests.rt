@@ -1,6 +1,7 @@
 //! What no clause shows: that calls succeed, on tables and trees whose answers are known.
 use crate::{Expr, Op, Table, evaluate, typed_of};
-use col_array::{AnyArray, AnyScalar, PrimitiveArray, PrimitiveScalar};
+use col_array::{AnyArray, AnyScalar};
+use col_flat::{PrimitiveArray, PrimitiveScalar};
 use col_types::{DataType, Error, Reason};
 use std::alloc::Global;
 

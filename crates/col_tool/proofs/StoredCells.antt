@@ -4,8 +4,8 @@ use Rattle.serde_json.specs.Data.{Data}
 use Rattle.serde_json.specs.View.{view, items_view}
 use Rattle.serde_json.specs.declared.value.Value.{Value}
 use Rattle.col_model.specs.Cell.{Cell}
-use Rattle.col_array.specs.Parts.{cell_of, stored_cells}
-use Rattle.col_array.proofs.PartsLemmas.{stored_cell-slot, stored_cells-push}
+use Rattle.col_flat.specs.Parts.{cell_of, stored_cells}
+use Rattle.col_flat.proofs.PartsLemmas.{stored_cell-slot, stored_cells-push}
 use Rattle.col_tool.specs.Json.{each, joined}
 use Rattle.col_tool.proofs.Lists.{front}
 

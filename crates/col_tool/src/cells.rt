@@ -6,14 +6,15 @@ ghost use Rattle.col_types.specs.DataKind.{kind_of};
 ghost use Rattle.col_types.specs.DataType.{IsMadeOf};
 ghost use Rattle.col_types.specs.declared.datatypes.physical_type.PrimitiveType.TheVariants.{Int64};
 ghost use Rattle.col_array.specs.Any.{any_column};
-ghost use Rattle.col_array.specs.Parts.{cell_of, stored_cells};
+ghost use Rattle.col_flat.specs.Parts.{cell_of, stored_cells};
 ghost use Rattle.col_tool.specs.Document.{cell_read, column_read, type_read};
 ghost use Rattle.col_tool.specs.Json.{each};
 ghost use Rattle.col_tool.specs.Reading.{Reads};
 
 use crate::document::ReadError;
 use crate::texts::{read_number, read_type_name};
-use col_array::{AnyArray, PrimitiveArray};
+use col_array::AnyArray;
+use col_flat::PrimitiveArray;
 use col_types::DataType;
 use serde_json::Value;
 use std::alloc::Global;

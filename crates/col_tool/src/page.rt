@@ -2,7 +2,7 @@
 ghost use Rattle.std.specs.Prelude.{◌≡◌, ◌++◌, [], ◌∷◌, IfOk, codes, length, map};
 ghost use Rattle.std.specs.List.{join_with_byte};
 ghost use Rattle.col_types.specs.Answer.{FailsByMemory};
-ghost use Rattle.col_array.specs.Parts.{cell_of, column_of};
+ghost use Rattle.col_flat.specs.Parts.{cell_of, column_of};
 ghost use Rattle.col_array.specs.Any.{any_column};
 ghost use Rattle.col_eval.specs.Meaning.{outcome_of};
 ghost use Rattle.col_eval.specs.Tree.{tree_of};
@@ -13,8 +13,9 @@ ghost use Rattle.col_tool.specs.View.{document_view};
 
 use crate::document::Document;
 use crate::type_texts::push_type;
-use col_array::{AnyArray, PrimitiveArray};
+use col_array::AnyArray;
 use col_eval::{Expr, Table, evaluate};
+use col_flat::PrimitiveArray;
 use col_types::Error;
 use itoa::Buffer;
 use std::alloc::Global;

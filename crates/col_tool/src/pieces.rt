@@ -6,8 +6,9 @@ ghost use Rattle.col_tool.specs.Reading.{piece_view};
 
 use crate::cells::{read_slot, read_type};
 use crate::texts::{read_position, read_step};
-use col_array::{AnyScalar, PrimitiveScalar};
+use col_array::AnyScalar;
 use col_eval::Op;
+use col_flat::PrimitiveScalar;
 use serde_json::Value;
 
 /// An item of a tree's list.

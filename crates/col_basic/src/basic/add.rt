@@ -7,10 +7,10 @@ ghost use Rattle.col_model.specs.WholeStep.{addition, plain, checked, whole_step
 ghost use Rattle.col_types.specs.Answer.{Answers, RefusedWhere, as_errors};
 ghost use Rattle.col_types.specs.Column.{kernel_answer, row_count, scalar_answer};
 ghost use Rattle.col_types.specs.declared.error.Reason.TheVariants.{Lengths};
-ghost use Rattle.col_array.specs.Parts.{column_of, cell_of, stored_cells};
+ghost use Rattle.col_flat.specs.Parts.{column_of, cell_of, stored_cells};
 ghost use Rattle.col_basic.specs.Forms.{form_of};
 
-use col_array::PrimitiveArray;
+use col_flat::PrimitiveArray;
 use col_types::{Error, Reason};
 use std::alloc::Global;
 

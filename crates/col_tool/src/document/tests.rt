@@ -1,7 +1,8 @@
 //! Which bytes hold a document, and what it holds.
 use crate::document::{Document, ReadError, read_document};
-use col_array::{AnyArray, AnyScalar, PrimitiveArray};
+use col_array::{AnyArray, AnyScalar};
 use col_eval::{Expr, Op};
+use col_flat::PrimitiveArray;
 use std::alloc::{AllocError, Global};
 
 #[test]

@@ -1,7 +1,7 @@
 use Rattle.std.proofs.Common.{◌≡◌, length}
 use Rattle.std.specs.Vec.Iter.{into_iter_items}
 use Rattle.serde_json.specs.View.{items_view}
-use Rattle.col_array.specs.Parts.{stored_cells}
+use Rattle.col_flat.specs.Parts.{stored_cells}
 use Rattle.col_types.specs.DataKind.{kind_of}
 use Rattle.col_tool.specs.Document.{cell_read}
 use Rattle.col_tool.specs.Json.{each}

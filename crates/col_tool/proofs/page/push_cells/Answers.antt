@@ -1,4 +1,4 @@
-use Rattle.col_array.specs.Parts.{column_of}
+use Rattle.col_flat.specs.Parts.{column_of}
 use Rattle.col_tool.proofs.PageLemmas.{cells-next}
 use Rattle.col_tool.proofs.page.push_cells.Goals as goal
 

@@ -1,6 +1,6 @@
 use Rattle.std.proofs.Common.{◌≡◌, ◌++◌, map, take}
 use Rattle.std.specs.List.{join_with_byte}
-use Rattle.col_array.specs.Parts.{column_of}
+use Rattle.col_flat.specs.Parts.{column_of}
 use Rattle.col_tool.specs.Page.{cell_text}
 use Rattle.col_tool.proofs.page.push_cells.Given as goal
 

@@ -7,7 +7,7 @@ use Rattle.std.specs.Int.{w64}
 use Rattle.col_model.specs.Whole.{signed}
 use Rattle.col_model.specs.WholeStep.{addition}
 use Rattle.col_types.specs.declared.error.Error.TheVariants.{Overflow}
-use Rattle.col_array.specs.Parts.{column_of}
+use Rattle.col_flat.specs.Parts.{column_of}
 use Rattle.col_basic.proofs.OverflowLemmas.{rows_overflow, refused_where}
 use Rattle.col_basic.proofs.basic.add.add_scalar.Goals as goal
 

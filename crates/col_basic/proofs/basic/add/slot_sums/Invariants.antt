@@ -3,7 +3,7 @@ use Rattle.std.specs.Int.{w64}
 use Rattle.col_model.specs.Whole.{signed}
 use Rattle.col_model.specs.WholeStep.{addition, whole_step}
 use Rattle.col_types.specs.Column.{row_count}
-use Rattle.col_array.specs.Parts.{cell_of, column_of, stored_cells}
+use Rattle.col_flat.specs.Parts.{cell_of, column_of, stored_cells}
 use Rattle.col_basic.specs.Forms.{form_of}
 use Rattle.col_basic.proofs.EachRowLemmas.{IsDoneTo}
 use Rattle.col_basic.proofs.basic.add.slot_sums.Given as goal

@@ -6,8 +6,8 @@ use Rattle.std.specs.Int.{w64}
 use mir.Val.{SFits}
 use Rattle.col_model.specs.Whole.{signed}
 use Rattle.col_model.specs.WholeStep.{addition, whole_step}
-use Rattle.col_array.specs.Parts.{column_of, stored_cells}
-use Rattle.col_array.proofs.PartsLemmas.{stored_cell-slot, stored_cells-push}
+use Rattle.col_flat.specs.Parts.{column_of, stored_cells}
+use Rattle.col_flat.proofs.PartsLemmas.{stored_cell-slot, stored_cells-push}
 use Rattle.col_basic.specs.Forms.{form_of}
 use Rattle.col_basic.proofs.EachRowLemmas.{done_to-all, done_to-cell, done_to-error}
 use Rattle.col_basic.proofs.basic.add.sums.Goals as goal

@@ -2,7 +2,7 @@ use Rattle.std.proofs.Common.{◌≡◌, length}
 use Rattle.std.specs.Int.{w64}
 use Rattle.col_model.specs.Whole.{signed}
 use Rattle.col_model.specs.WholeStep.{addition, whole_step}
-use Rattle.col_array.specs.Parts.{column_of, stored_cells}
+use Rattle.col_flat.specs.Parts.{column_of, stored_cells}
 use Rattle.col_basic.specs.Forms.{form_of}
 use Rattle.col_basic.proofs.EachRowLemmas.{IsDoneTo}
 use Rattle.col_basic.proofs.basic.add.sums.Given as goal

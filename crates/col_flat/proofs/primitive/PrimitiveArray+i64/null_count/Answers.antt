@@ -1,6 +1,6 @@
 use Rattle.std.proofs.Common.{◌∙◌}
-use Rattle.col_array.proofs.PartsLemmas.{count_by-null_count}
-use Rattle.col_array.proofs.primitive.PrimitiveArray+i64.null_count.Goals as goal
+use Rattle.col_flat.proofs.PartsLemmas.{count_by-null_count}
+use Rattle.col_flat.proofs.primitive.PrimitiveArray+i64.null_count.Goals as goal
 
 pub returns : goal.returns
 returns c =

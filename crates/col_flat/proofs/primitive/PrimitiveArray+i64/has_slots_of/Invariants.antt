@@ -1,6 +1,6 @@
 use Rattle.std.proofs.Common.{◌≡◌, take}
-use Rattle.col_array.specs.Parts.{column_of}
-use Rattle.col_array.proofs.primitive.PrimitiveArray+i64.has_slots_of.Given as goal
+use Rattle.col_flat.specs.Parts.{column_of}
+use Rattle.col_flat.proofs.primitive.PrimitiveArray+i64.has_slots_of.Given as goal
 
 -- the slots so far are equal
 abbrev pub invariant-loop-i : goal.invariant-loop-i

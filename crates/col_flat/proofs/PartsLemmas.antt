@@ -2,7 +2,7 @@
 use Rattle.std.proofs.Common.{map, ◌≡◌, ℕ, ◌+◌, ◌<◌, suc, zero, Bool, true, false, List, [], ◌∷◌, ◌++◌, length, get_or, replicate, is_some, unwrap_or, not, count_by, add-one, cond, slice_get, ◌↔◌, ◌≢◌, IsTrue, pos, take, Option, Some, None, ℤ, refl, ap, sym, ◌∙◌, arith}
 use Rattle.std.proofs.lemmas.List.Recursion.{is_count_by}
 use Rattle.col_model.specs.Cell.{Cell, null, whole}
-use Rattle.col_array.specs.Parts.{stored_cell, stored_cells, cell_of, null_count_of}
+use Rattle.col_flat.specs.Parts.{stored_cell, stored_cells, cell_of, null_count_of}
 
 -- as many cells as stored numbers
 pub length-stored_cells : (flags : List Bool) (values : List ℤ) → length flags ≡ length values → length (stored_cells flags values) ≡ length values

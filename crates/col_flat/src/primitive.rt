@@ -6,7 +6,7 @@ ghost use Rattle.col_types.specs.DataType.{IsMadeOf, type_error};
 ghost use Rattle.col_types.specs.declared.datatypes.physical_type.PrimitiveType.TheVariants.{Int64};
 ghost use Rattle.col_types.specs.Answer.{ButForMemory, FailsByMemory, UnlessMemory};
 ghost use Rattle.col_types.specs.Column.{row_count};
-ghost use Rattle.col_array.specs.Parts.{column_of, cell_of, null_count_of};
+ghost use Rattle.col_flat.specs.Parts.{column_of, cell_of, null_count_of};
 
 use col_types::{DataType, Error, NativeType, Reason};
 use std::alloc::{AllocError, Global};
@@ -28,7 +28,7 @@ impl<T: NativeType> Model for PrimitiveArray<T> {
     ghost use Rattle.col_types.specs.DataKind.{kind_of};
     ghost use Rattle.col_types.specs.DataType.{IsMadeOf};
     ghost use Rattle.col_types.specs.KindCode.{kind_code};
-    ghost use Rattle.col_array.specs.Parts.{PrimitiveParts};
+    ghost use Rattle.col_flat.specs.Parts.{PrimitiveParts};
 
     ghost Value = { PrimitiveParts T };
 

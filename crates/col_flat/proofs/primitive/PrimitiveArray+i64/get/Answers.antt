@@ -3,9 +3,9 @@ use Rattle.std.proofs.lemmas.Int.{to_z-of_z}
 use mir.Syntax.{w64}
 use mir.Val.{SFits}
 use Rattle.col_types.specs.Column.{row_count}
-use Rattle.col_array.specs.Parts.{PrimitiveParts, column_of}
-use Rattle.col_array.proofs.PartsLemmas.{length-stored_cells, cell_at_valid, cell_at_null}
-use Rattle.col_array.proofs.primitive.PrimitiveArray+i64.get.Goals as goal
+use Rattle.col_flat.specs.Parts.{PrimitiveParts, column_of}
+use Rattle.col_flat.proofs.PartsLemmas.{length-stored_cells, cell_at_valid, cell_at_null}
+use Rattle.col_flat.proofs.primitive.PrimitiveArray+i64.get.Goals as goal
 
 pub index-requires : goal.index-requires
 index-requires c =

@@ -1,8 +1,8 @@
 use Rattle.std.proofs.Common.{ℤ, ap, arith}
 use Rattle.col_types.specs.Column.{row_count}
-use Rattle.col_array.specs.Parts.{PrimitiveParts, column_of}
-use Rattle.col_array.proofs.PartsLemmas.{length-stored_cells, is_valid_cell}
-use Rattle.col_array.proofs.primitive.PrimitiveArray+i64.is_valid.Goals as goal
+use Rattle.col_flat.specs.Parts.{PrimitiveParts, column_of}
+use Rattle.col_flat.proofs.PartsLemmas.{length-stored_cells, is_valid_cell}
+use Rattle.col_flat.proofs.primitive.PrimitiveArray+i64.is_valid.Goals as goal
 
 pub index-requires : goal.index-requires
 index-requires c =

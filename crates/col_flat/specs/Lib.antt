@@ -1,0 +1,3 @@
+pub use Rattle.col_types.specs.Answer
+pub use Rattle.col_types.specs.Column
+pub mod Parts

@@ -1,0 +1,10 @@
+//! Arrays without a child, and scalars: columns and single cells of one native type.
+#![tactic(auto)]
+
+mod primitive;
+mod scalar;
+#[cfg(test)]
+mod tests;
+
+pub use primitive::PrimitiveArray;
+pub use scalar::PrimitiveScalar;
