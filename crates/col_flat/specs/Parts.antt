@@ -1,42 +1,106 @@
--- The parts that arrays and scalars of numbers are made of, and the cells that they stand for.
-use Rattle.std.specs.Prelude.{ℕ, ◌+◌, ℤ, Bool, true, false, List, [], ◌∷◌, Option, Some, None}
-use Rattle.col_model.specs.Cell.{Cell, null, whole}
+-- The parts that arrays and scalars of native values are made of, and the cells they stand for.
+use Rattle.std.specs.Prelude.{◌≡◌, ℕ, ◌+◌, ℤ, Bool, true, false, List, [], ◌∷◌, length, map, Option, Some, None, option_map, unwrap_or, IsTrue, ⊤}
+use Rattle.std.specs.List.{list_all}
+use Rattle.col_buf.specs.Cut.{cut}
+use Rattle.col_model.specs.Cell.{Cell, null, whole, parts}
 use Rattle.col_types.specs.DataKind.{DataKind}
 use Rattle.col_types.specs.Column.{Column}
 
--- an array's parts: its type, a stored value for each slot, and for each slot whether it is valid
-pub record PrimitiveParts (T : Type 0) : Type 0 where
+-- an array's parts: its type; for each slot the value that is stored there, as the numbers of its
+-- fields; and the mask, where it has one: for each slot whether it is valid
+pub record PrimitiveParts : Type 0 where
   pub data_type : DataKind
-  pub values : List T
-  pub validity : List Bool
+  pub values : List (List ℤ)
+  pub validity : Option (List Bool)
+
+-- a scalar's parts: its type, and its value, where it is not null, as the numbers of its fields
+pub record ScalarParts : Type 0 where
+  pub data_type : DataKind
+  pub slot : Option (List ℤ)
+
+-- a mask has a flag for each of so many slots
+abbrev pub IsMaskOf : Option (List Bool) → ℕ → Type 0
+IsMaskOf None count = ⊤
+IsMaskOf (Some flags) count = length flags ≡ count
+
+-- a value as a cell: the one number of a whole number, or the numbers of an interval's fields
+abbrev pub value_cell : List ℤ → Cell
+value_cell [] = parts []
+value_cell (n ∷ []) = whole n
+value_cell (n ∷ m ∷ ns) = parts (n ∷ m ∷ ns)
 
 -- a slot as a cell
+abbrev pub slot_cell : Option (List ℤ) → Cell
+slot_cell None = null
+slot_cell (Some ns) = value_cell ns
+
+-- a slot of a native type as a cell, by the numbers that its values stand for
+abbrev pub native_cell : {T : Type 0} → (T → List ℤ) → Option T → Cell
+native_cell numbers slot = slot_cell (option_map numbers slot)
+
+-- a slot of whole numbers as a cell
 abbrev pub cell_of : Option ℤ → Cell
-cell_of None = null
-cell_of (Some n) = whole n
+cell_of slot = native_cell (λ n. n ∷ []) slot
 
--- a stored number as a cell: null where its slot is not valid
+-- what a flag leaves of a value: beneath a false one there is none
+abbrev pub slot_beneath : Bool → List ℤ → Option (List ℤ)
+slot_beneath true ns = Some ns
+slot_beneath false ns = None
+
+-- the slots of values beneath their flags; a value without a flag is valid
+abbrev pub masked_slots : List (List ℤ) → List Bool → List (Option (List ℤ))
+masked_slots [] flags = []
+masked_slots (ns ∷ values) [] = Some ns ∷ masked_slots values []
+masked_slots (ns ∷ values) (valid ∷ flags) = slot_beneath valid ns ∷ masked_slots values flags
+
+-- a number beneath its flag as a cell
 abbrev pub stored_cell : Bool → ℤ → Cell
-stored_cell true n = whole n
-stored_cell false n = null
+stored_cell valid n = slot_cell (slot_beneath valid (n ∷ []))
 
--- a cell for each stored number that has a flag
+-- the cells of whole numbers beneath their flags
 abbrev pub stored_cells : List Bool → List ℤ → List Cell
-stored_cells [] values = []
-stored_cells (valid ∷ validity) [] = []
-stored_cells (valid ∷ validity) (n ∷ values) = stored_cell valid n ∷ stored_cells validity values
+stored_cells flags values = map slot_cell (masked_slots (map (λ n. n ∷ []) values) flags)
 
--- the column that an array stands for: what is stored where a slot is not valid is no part of it
-abbrev pub column_of : PrimitiveParts ℤ → Column
-column_of a = record { data_type = a.data_type; cells = stored_cells a.validity a.values }
+-- an array's slots: without a mask all are valid, and what is stored beneath a null is none of them
+abbrev pub slots_of : PrimitiveParts → List (Option (List ℤ))
+slots_of a = masked_slots a.values (unwrap_or a.validity [])
+
+-- the column that an array stands for
+abbrev pub column_of : PrimitiveParts → Column
+column_of a = record { data_type = a.data_type; cells = map slot_cell (slots_of a) }
 
 -- how many cells are null
 abbrev pub null_count_of : List Cell → ℕ
 null_count_of [] = 0
 null_count_of (null ∷ cells) = 1 + null_count_of cells
 null_count_of (whole n ∷ cells) = null_count_of cells
+null_count_of (parts ns ∷ cells) = null_count_of cells
 
--- a scalar's parts: its type, and its slot
-pub record ScalarParts (T : Type 0) : Type 0 where
-  pub data_type : DataKind
-  pub slot : Option T
+-- so many slots of an array from a row on
+abbrev pub cut_parts : PrimitiveParts → ℕ → ℕ → PrimitiveParts
+cut_parts a offset count = record {
+  data_type = a.data_type;
+  values = cut a.values offset count;
+  validity = option_map (λ flags. cut flags offset count) a.validity;
+}
+
+-- a mask has these flags; without one all of them are true
+abbrev pub HasFlags : Option (List Bool) → List Bool → Type 0
+HasFlags None flags = IsTrue (list_all (λ flag. flag) flags)
+HasFlags (Some mask) flags = mask ≡ flags
+
+-- both values of two slots; null where one of the two is null
+abbrev pub both_slots : {X Y : Type 0} → Option X → Option Y → Option (X × Y)
+both_slots None right = None
+both_slots (Some x) None = None
+both_slots (Some x) (Some y) = Some (x, y)
+
+-- row by row both values, null where one of the two is null; as long as the shorter list
+abbrev pub zipped_slots : {X Y : Type 0} → List (Option X) → List (Option Y) → List (Option (X × Y))
+zipped_slots [] right = []
+zipped_slots (x ∷ left) [] = []
+zipped_slots (x ∷ left) (y ∷ right) = both_slots x y ∷ zipped_slots left right
+
+-- the numbers of both values
+abbrev pub pair_numbers : {X Y M N : Type 0} → (X → M) → (Y → N) → X × Y → M × N
+pair_numbers left right pair = (left pair.0, right pair.1)

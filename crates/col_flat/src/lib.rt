@@ -6,5 +6,5 @@ mod scalar;
 #[cfg(test)]
 mod tests;
 
-pub use primitive::PrimitiveArray;
+pub use primitive::{PrimitiveArray, SlotIter, SlotPairs, pairs};
 pub use scalar::PrimitiveScalar;
