@@ -1,56 +1,68 @@
 //! Arrays of any type.
-ghost use Rattle.std.specs.Prelude.{◌≡◌, ◌≢◌, ◌<◌, ◌↔◌, IsTrue, IsOk, IfErr, IfOk, Some, replicate, slice_get};
+ghost use Rattle.std.specs.Prelude.{◌≡◌, ◌≢◌, ◌+◌, ◌<◌, ◌≤◌, ◌↔◌, IsTrue, IsOk, IfErr, IfOk, Some, replicate, slice_get};
 ghost use Rattle.col_model.specs.Cell.{null};
 ghost use Rattle.col_types.specs.DataKind.{kind_of};
-ghost use Rattle.col_types.specs.DataType.{IsMadeOf, type_error};
-ghost use Rattle.col_types.specs.declared.datatypes.physical_type.PrimitiveType.TheVariants as native;
+ghost use Rattle.col_types.specs.DataType.{IsStoredAs, type_error};
 ghost use Rattle.col_types.specs.Answer.{ButForMemory, FailsByMemory, UnlessMemory};
 ghost use Rattle.col_types.specs.Column.{row_count};
-ghost use Rattle.col_array.specs.Any.{any_column};
 ghost use Rattle.col_flat.specs.Parts.{null_count_of};
-ghost use Rattle.col_array.specs.declared.any.AnyArray.TheVariants.{Int64};
+ghost use Rattle.col_array.specs.declared.any.AnyArray.TheVariants.{DaysMs, Int8, Int16, Int32, Int64, Int128, MonthDayNano, UInt8, UInt16, UInt32, UInt64};
+ghost use Rattle.col_array.specs.Any.{IsHeld, IsLaidOutAs, any_column, cut_column, layout_of};
 
+use crate::with_typed;
 use col_flat::PrimitiveArray;
-use col_types::{DataType, Error};
+use col_types::{DataType, Error, PhysicalType, PrimitiveType, Reason, days_ms, months_days_ns};
 use std::alloc::Global;
 
-/// An array of any type.
+/// An array of any type: each variant holds the arrays of one layout.
 #[derive(Drop)]
 pub enum AnyArray {
-    /// Whole numbers of 64 bits.
+    /// Whole numbers of 8 bits with a sign.
+    Int8(PrimitiveArray<i8>),
+    /// Whole numbers of 16 bits with a sign.
+    Int16(PrimitiveArray<i16>),
+    /// Whole numbers of 32 bits with a sign.
+    Int32(PrimitiveArray<i32>),
+    /// Whole numbers of 64 bits with a sign.
     Int64(PrimitiveArray<i64>),
-}
-
-impl From<PrimitiveArray<i64>> for AnyArray {
-    ghost from_gives = { λ a r. r ≡ Int64 a };
-
-    fn from(array: PrimitiveArray<i64>) -> AnyArray {
-        AnyArray::Int64(array)
-    }
+    /// Whole numbers of 128 bits with a sign.
+    Int128(PrimitiveArray<i128>),
+    /// Whole numbers of 8 bits without a sign.
+    UInt8(PrimitiveArray<u8>),
+    /// Whole numbers of 16 bits without a sign.
+    UInt16(PrimitiveArray<u16>),
+    /// Whole numbers of 32 bits without a sign.
+    UInt32(PrimitiveArray<u32>),
+    /// Whole numbers of 64 bits without a sign.
+    UInt64(PrimitiveArray<u64>),
+    /// Intervals of days and milliseconds.
+    DaysMs(PrimitiveArray<days_ms>),
+    /// Intervals of months, days and nanoseconds.
+    MonthDayNano(PrimitiveArray<months_days_ns>),
 }
 
 impl AnyArray {
     /// An array of null slots.
     ///
     /// Refused, in this order: `Parameters` where the type's parameters do not fit; `OutOfSpec`
-    /// where the type is not carried or not stored in 64 bits.
+    /// where the type is not carried, or its arrays have no variant.
     pub fn new_null(alloc: Global, data_type: DataType, length: usize) -> Result<AnyArray, Error>
         ensures value { IfOk result (λ array. any_column array
             ≡ record { data_type = kind_of data_type; cells = replicate length null }) }
-        ensures range { ButForMemory result
-            (IsOk result ↔ IsMadeOf (kind_of data_type) native.Int64) }
+        ensures range { ButForMemory result (IsOk result ↔ IsHeld (kind_of data_type)) }
         ensures refused { IfErr result (λ e. UnlessMemory e (e ≡ type_error (kind_of data_type))) }
     {
-        Ok(AnyArray::Int64(PrimitiveArray::new_null(alloc, data_type, length)?))
+        match data_type.to_physical_type() {
+            PhysicalType::Primitive(native) => nulls_of(alloc, native, data_type, length),
+            _ => Err(refusal_of(&data_type)),
+        }
     }
 
     /// The number of slots.
     pub fn len(&self) -> usize
         ensures { result ≡ row_count (any_column self.now) }
     {
-        match self {
-            AnyArray::Int64(array) => array.len(),
-        }
+        with_typed!(AnyArray, self, |array| array.len())
     }
 
     /// Whether the slot at a row is not null.
@@ -58,46 +70,217 @@ impl AnyArray {
         requires { i < row_count (any_column self.now) }
         ensures { IsTrue result ↔ (slice_get (any_column self.now).cells i ≢ Some null) }
     {
-        match self {
-            AnyArray::Int64(array) => array.is_valid(i),
-        }
+        with_typed!(AnyArray, self, |array| array.is_valid(i))
     }
 
     /// How many slots are null.
     pub fn null_count(&self) -> usize
         ensures { result ≡ null_count_of (any_column self.now).cells }
     {
-        match self {
-            AnyArray::Int64(array) => array.null_count(),
-        }
+        with_typed!(AnyArray, self, |array| array.null_count())
     }
 
     /// The array's type.
     pub fn data_type(&self) -> &DataType
         ensures value { kind_of result.now ≡ (any_column self.now).data_type }
-        ensures made { IsMadeOf (kind_of result.now) native.Int64 }
+        ensures made { IsLaidOutAs (kind_of result.now) (layout_of self.now) }
     {
-        match self {
-            AnyArray::Int64(array) => array.data_type(),
-        }
+        with_typed!(AnyArray, self, |array| array.data_type())
     }
 
-    /// An array with equal type and slots.
+    /// The `length` slots from the row `offset` on. Nothing is copied or moved.
+    pub fn sliced(self, offset: usize, length: usize) -> Self
+        requires { offset + length ≤ row_count (any_column self) }
+        ensures { any_column result ≡ cut_column (any_column self) offset length }
+    {
+        with_typed!(
+            AnyArray,
+            self,
+            |array| AnyArray::from(array.sliced(offset, length))
+        )
+    }
+
+    /// An array with equal type and slots. What is stored is shared.
     pub fn try_clone(&self, alloc: Global) -> Result<AnyArray, Error>
         ensures value { IfOk result (λ copy. any_column copy ≡ any_column self.now) }
         ensures refused { FailsByMemory result }
     {
-        match self {
-            AnyArray::Int64(array) => Ok(AnyArray::Int64(array.try_clone(alloc)?)),
-        }
+        with_typed!(
+            AnyArray,
+            self,
+            |array| Ok(AnyArray::from(array.try_clone(alloc)?))
+        )
     }
 
-    /// Whether types and slots are equal.
+    /// Whether types and slots are equal; what is stored beneath nulls is not looked at.
     pub fn equal(&self, other: &AnyArray) -> bool
         ensures { IsTrue result ↔ (any_column self.now ≡ any_column other.now) }
     {
-        match (self, other) {
-            (AnyArray::Int64(array), AnyArray::Int64(other)) => array.equal(other),
+        if !self.data_type().equal(other.data_type()) {
+            return false;
         }
+        match (self, other) {
+            (AnyArray::Int8(array), AnyArray::Int8(other)) => array.equal(other),
+            (AnyArray::Int16(array), AnyArray::Int16(other)) => array.equal(other),
+            (AnyArray::Int32(array), AnyArray::Int32(other)) => array.equal(other),
+            (AnyArray::Int64(array), AnyArray::Int64(other)) => array.equal(other),
+            (AnyArray::Int128(array), AnyArray::Int128(other)) => array.equal(other),
+            (AnyArray::UInt8(array), AnyArray::UInt8(other)) => array.equal(other),
+            (AnyArray::UInt16(array), AnyArray::UInt16(other)) => array.equal(other),
+            (AnyArray::UInt32(array), AnyArray::UInt32(other)) => array.equal(other),
+            (AnyArray::UInt64(array), AnyArray::UInt64(other)) => array.equal(other),
+            (AnyArray::DaysMs(array), AnyArray::DaysMs(other)) => array.equal(other),
+            (AnyArray::MonthDayNano(array), AnyArray::MonthDayNano(other)) => array.equal(other),
+            _ => false,
+        }
+    }
+}
+
+// The refusal of a type whose arrays have no variant.
+fn refusal_of(data_type: &DataType) -> Error
+    ensures { result ≡ type_error (kind_of data_type.now) }
+{
+    if data_type.parameters_fit() {
+        Error::OutOfSpec
+    } else {
+        Error::InvalidArgumentError(Reason::Parameters)
+    }
+}
+
+// An array of null slots of a type that is stored as a native type.
+fn nulls_of(
+    alloc: Global,
+    native: PrimitiveType,
+    data_type: DataType,
+    length: usize,
+) -> Result<AnyArray, Error>
+    requires { IsStoredAs (kind_of data_type) native }
+    ensures value { IfOk result (λ array. any_column array
+        ≡ record { data_type = kind_of data_type; cells = replicate length null }) }
+    ensures range { ButForMemory result (IsOk result ↔ IsHeld (kind_of data_type)) }
+    ensures refused { IfErr result (λ e. UnlessMemory e (e ≡ type_error (kind_of data_type))) }
+{
+    match native {
+        PrimitiveType::Int8 => Ok(AnyArray::from(PrimitiveArray::<i8>::new_null(
+            alloc, data_type, length,
+        )?)),
+        PrimitiveType::Int16 => Ok(AnyArray::from(PrimitiveArray::<i16>::new_null(
+            alloc, data_type, length,
+        )?)),
+        PrimitiveType::Int32 => Ok(AnyArray::from(PrimitiveArray::<i32>::new_null(
+            alloc, data_type, length,
+        )?)),
+        PrimitiveType::Int64 => Ok(AnyArray::from(PrimitiveArray::<i64>::new_null(
+            alloc, data_type, length,
+        )?)),
+        PrimitiveType::Int128 => Ok(AnyArray::from(PrimitiveArray::<i128>::new_null(
+            alloc, data_type, length,
+        )?)),
+        PrimitiveType::UInt8 => Ok(AnyArray::from(PrimitiveArray::<u8>::new_null(
+            alloc, data_type, length,
+        )?)),
+        PrimitiveType::UInt16 => Ok(AnyArray::from(PrimitiveArray::<u16>::new_null(
+            alloc, data_type, length,
+        )?)),
+        PrimitiveType::UInt32 => Ok(AnyArray::from(PrimitiveArray::<u32>::new_null(
+            alloc, data_type, length,
+        )?)),
+        PrimitiveType::UInt64 => Ok(AnyArray::from(PrimitiveArray::<u64>::new_null(
+            alloc, data_type, length,
+        )?)),
+        PrimitiveType::DaysMs => Ok(AnyArray::from(PrimitiveArray::<days_ms>::new_null(
+            alloc, data_type, length,
+        )?)),
+        PrimitiveType::MonthDayNano => Ok(AnyArray::from(PrimitiveArray::<months_days_ns>::new_null(
+            alloc, data_type, length,
+        )?)),
+    }
+}
+
+impl From<PrimitiveArray<i8>> for AnyArray {
+    ghost from_gives = { λ array any. any ≡ Int8 array };
+
+    fn from(array: PrimitiveArray<i8>) -> AnyArray {
+        AnyArray::Int8(array)
+    }
+}
+
+impl From<PrimitiveArray<i16>> for AnyArray {
+    ghost from_gives = { λ array any. any ≡ Int16 array };
+
+    fn from(array: PrimitiveArray<i16>) -> AnyArray {
+        AnyArray::Int16(array)
+    }
+}
+
+impl From<PrimitiveArray<i32>> for AnyArray {
+    ghost from_gives = { λ array any. any ≡ Int32 array };
+
+    fn from(array: PrimitiveArray<i32>) -> AnyArray {
+        AnyArray::Int32(array)
+    }
+}
+
+impl From<PrimitiveArray<i64>> for AnyArray {
+    ghost from_gives = { λ array any. any ≡ Int64 array };
+
+    fn from(array: PrimitiveArray<i64>) -> AnyArray {
+        AnyArray::Int64(array)
+    }
+}
+
+impl From<PrimitiveArray<i128>> for AnyArray {
+    ghost from_gives = { λ array any. any ≡ Int128 array };
+
+    fn from(array: PrimitiveArray<i128>) -> AnyArray {
+        AnyArray::Int128(array)
+    }
+}
+
+impl From<PrimitiveArray<u8>> for AnyArray {
+    ghost from_gives = { λ array any. any ≡ UInt8 array };
+
+    fn from(array: PrimitiveArray<u8>) -> AnyArray {
+        AnyArray::UInt8(array)
+    }
+}
+
+impl From<PrimitiveArray<u16>> for AnyArray {
+    ghost from_gives = { λ array any. any ≡ UInt16 array };
+
+    fn from(array: PrimitiveArray<u16>) -> AnyArray {
+        AnyArray::UInt16(array)
+    }
+}
+
+impl From<PrimitiveArray<u32>> for AnyArray {
+    ghost from_gives = { λ array any. any ≡ UInt32 array };
+
+    fn from(array: PrimitiveArray<u32>) -> AnyArray {
+        AnyArray::UInt32(array)
+    }
+}
+
+impl From<PrimitiveArray<u64>> for AnyArray {
+    ghost from_gives = { λ array any. any ≡ UInt64 array };
+
+    fn from(array: PrimitiveArray<u64>) -> AnyArray {
+        AnyArray::UInt64(array)
+    }
+}
+
+impl From<PrimitiveArray<days_ms>> for AnyArray {
+    ghost from_gives = { λ array any. any ≡ DaysMs array };
+
+    fn from(array: PrimitiveArray<days_ms>) -> AnyArray {
+        AnyArray::DaysMs(array)
+    }
+}
+
+impl From<PrimitiveArray<months_days_ns>> for AnyArray {
+    ghost from_gives = { λ array any. any ≡ MonthDayNano array };
+
+    fn from(array: PrimitiveArray<months_days_ns>) -> AnyArray {
+        AnyArray::MonthDayNano(array)
     }
 }

@@ -5,6 +5,7 @@ mod any;
 mod any_scalar;
 #[cfg(test)]
 mod tests;
+mod typed;
 
 pub use any::AnyArray;
 pub use any_scalar::AnyScalar;
