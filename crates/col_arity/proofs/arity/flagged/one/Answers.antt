@@ -1,0 +1,30 @@
+use Rattle.std.proofs.Common.{refl}
+use Rattle.col_arity.proofs.RowLemmas.{MapsSoFar-end, MapsSoFar-null, MapsSoFar-value, callable_first, callable_rest, length-more, zip-more}
+use Rattle.col_arity.proofs.arity.flagged.one.Goals as goal
+
+pub op-answer-requires : goal.op-answer-requires
+op-answer-requires g c =
+    callable_first g.I.NativeType.numbers (λ x. goal.F-pre g c.args.op x) c.in-Some-slot.value c.loop-slot.invariant.callable (rw c.in-Some-slot.is at c.in-Some.ensures.steps)
+
+pub loop-slot-preserved : goal.loop-slot-preserved
+loop-slot-preserved g c =
+    let is = rw c.in-None-slot.is at c.in-Some.ensures.steps in
+    record {
+      callable = callable_rest _ _ c.loop-slot.invariant.callable c.in-Some.ensures.steps;
+      rows = MapsSoFar-null c.loop-slot.invariant.rows is (zip-more _ _ _ _ _ _ c.loop-slot.invariant.one_length c.in_ok-push-in-None-slot.ensures.value c.in_ok-push-in-None-slot-2.ensures.items);
+      one_length = length-more _ _ _ _ _ _ c.loop-slot.invariant.one_length c.in_ok-push-in-None-slot.ensures.value c.in_ok-push-in-None-slot-2.ensures.items;
+    }
+
+pub loop-slot-preserved-in-Continue-branch-4 : goal.loop-slot-preserved-in-Continue-branch-4
+loop-slot-preserved-in-Continue-branch-4 g c =
+    let is = rw c.in-Some-slot.is at c.in-Some.ensures.steps in
+    record {
+      callable = callable_rest _ _ c.loop-slot.invariant.callable c.in-Some.ensures.steps;
+      rows = MapsSoFar-value c.loop-slot.invariant.rows is
+          (record { value = c.in-Some-slot.value; answer = c.op-answer.result; is_value = refl; answers = c.op-answer.ensures; is_answer = refl })
+          (zip-more _ _ _ _ _ _ c.loop-slot.invariant.one_length c.in_ok-push-in-Some-slot.ensures.value c.in_ok-push-in-Some-slot-2.ensures.items);
+      one_length = length-more _ _ _ _ _ _ c.loop-slot.invariant.one_length c.in_ok-push-in-Some-slot.ensures.value c.in_ok-push-in-Some-slot-2.ensures.items;
+    }
+
+pub returns-clause-answer : goal.returns-clause-answer
+returns-clause-answer g c = MapsSoFar-end c.loop-slot.invariant.rows c.in-None.ensures.steps.0

@@ -1,0 +1,24 @@
+use Rattle.std.proofs.Common.{refl}
+use Rattle.col_arity.proofs.RowLemmas.{MapsSoFar-end, MapsSoFar-null, MapsSoFar-value, callable_rest}
+use Rattle.col_arity.proofs.arity.mapped.one.Goals as goal
+
+pub loop-slot-preserved : goal.loop-slot-preserved
+loop-slot-preserved g c =
+    let is = rw c.in-None-slot.is at c.in-Some.ensures.steps in
+    record {
+      callable = callable_rest _ _ c.loop-slot.invariant.callable c.in-Some.ensures.steps;
+      rows = MapsSoFar-null c.loop-slot.invariant.rows is c.in_ok-push-in-None-slot.ensures.value;
+    }
+
+pub loop-slot-preserved-in-Continue-branch-2 : goal.loop-slot-preserved-in-Continue-branch-2
+loop-slot-preserved-in-Continue-branch-2 g c =
+    let is = rw c.in-Some-slot.is at c.in-Some.ensures.steps in
+    record {
+      callable = callable_rest _ _ c.loop-slot.invariant.callable c.in-Some.ensures.steps;
+      rows = MapsSoFar-value c.loop-slot.invariant.rows is
+          (record { value = c.in-Some-slot.value; answer = c.op-answer.result; is_value = refl; answers = c.op-answer.ensures; is_answer = refl })
+          c.in_ok-push-in-Some-slot.ensures.value;
+    }
+
+pub returns-clause-answer : goal.returns-clause-answer
+returns-clause-answer g c = MapsSoFar-end c.loop-slot.invariant.rows c.in-None.ensures.steps.0

@@ -1,0 +1,65 @@
+//! The rows of `unary` and `binary`.
+ghost use Rattle.std.specs.Prelude.{◌≡◌, IfOk, None, Some};
+ghost use Rattle.col_types.specs.Answer.{FailsByMemory};
+ghost use Rattle.col_types.specs.Column.{row_count};
+ghost use Rattle.col_flat.specs.Parts.{column_of, pair_numbers, slots_of, zipped_slots};
+ghost use Rattle.col_arity.specs.Rows.{AnswersWith, IsCallableAtValid, MapsSlots};
+
+use crate::growing::Growing;
+use col_flat::{PrimitiveArray, pairs};
+use col_types::{Error, NativeType};
+use std::alloc::Global;
+
+// The rows of `unary`.
+pub(super) fn one<I: NativeType, O: NativeType, F: Fn(I) -> O>(
+    alloc: Global,
+    array: &PrimitiveArray<I>,
+    op: F,
+) -> Result<Growing<O>, Error>
+    requires callable { IsCallableAtValid I.numbers (λ x. F.pre op x) (slots_of array.now) }
+    ensures answer { IfOk result (MapsSlots
+        (AnswersWith I.numbers (λ x r. F.post op x r) (λ r. Some (O.numbers r)))
+        None (slots_of array.now)) }
+    ensures refused { FailsByMemory result }
+{
+    let mut slots = Growing::with_capacity(alloc, array.len())?;
+    for slot in array.iter() {
+        match slot {
+            Some(value) => {
+                let answer = op(value);
+                slots.push(Some(answer))?;
+            }
+            None => slots.push(None)?,
+        }
+    }
+    Ok(slots)
+}
+
+// The rows of `binary`.
+pub(super) fn two<T: NativeType, D: NativeType, F: Fn(T, D) -> T>(
+    alloc: Global,
+    lhs: &PrimitiveArray<T>,
+    rhs: &PrimitiveArray<D>,
+    op: F,
+) -> Result<Growing<T>, Error>
+    requires one_length { row_count (column_of lhs.now) ≡ row_count (column_of rhs.now) }
+    requires callable { IsCallableAtValid (pair_numbers T.numbers D.numbers) (λ p. F.pre op p.0 p.1)
+        (zipped_slots (slots_of lhs.now) (slots_of rhs.now)) }
+    ensures answer { IfOk result (MapsSlots
+        (AnswersWith (pair_numbers T.numbers D.numbers) (λ p r. F.post op p.0 p.1 r)
+        (λ r. Some (T.numbers r)))
+        None (zipped_slots (slots_of lhs.now) (slots_of rhs.now))) }
+    ensures refused { FailsByMemory result }
+{
+    let mut rows = Growing::with_capacity(alloc, lhs.len())?;
+    for row in pairs(lhs, rhs) {
+        match row {
+            Some(pair) => {
+                let answer = op(pair.0, pair.1);
+                rows.push(Some(answer))?;
+            }
+            None => rows.push(None)?,
+        }
+    }
+    Ok(rows)
+}
