@@ -1,2 +1,2 @@
-pub mod EachRowLemmas
+pub mod ClosureLemmas
 pub mod OverflowLemmas

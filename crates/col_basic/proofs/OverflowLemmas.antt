@@ -1,14 +1,14 @@
 -- Where a plain step over two lists is refused.
 use Rattle.std.proofs.Common.{◌≡◌, ◌↔◌, ℕ, ℤ, suc, zero, Bool, true, false, List, [], ◌∷◌, Result, Ok, Err, ◌==◌, eq-eqb, refl, sym, ◌∙◌}
 use Rattle.std.proofs.lemmas.Bool.{true≢false, eqb-true}
-use Rattle.col_model.specs.Cell.{Cell, null, whole, Cause, overflow, divide_by_zero}
+use Rattle.col_model.specs.Cell.{Cell, null, whole, parts, Cause, overflow, divide_by_zero}
 use Rattle.col_model.specs.Whole.{WholeType}
 use Rattle.col_model.specs.WholeStep.{Operation, plain, before, each_row, exact_result, formed, is_by_zero, is_fitting_result, whole_step, OverflowsAt, OverflowsSomewhere}
 use Rattle.col_types.specs.Answer.{Answers, RefusedWhere}
 use Rattle.col_types.specs.Column.{Column, column_answer, kernel_answer, row_count}
 use Rattle.col_types.specs.declared.error.Error.{Error}
 use Rattle.col_types.specs.declared.error.Error.TheVariants.{Overflow}
-use Rattle.col_basic.proofs.EachRowLemmas.{unless_memory-weaker}
+use Rattle.col_types.proofs.AnswerLemmas.{UnlessMemory-weaker}
 
 -- a cell in front hides no refusal of the rows below
 before-err : (c : Cell) (rest : Result (List Cell) Cause) (cause : Cause) → before (Ok c) rest ≡ Err cause → rest ≡ Err cause
@@ -36,6 +36,10 @@ refused_somewhere operation t [] right results h = cc
 refused_somewhere operation t (x ∷ left) [] results h = cc
 refused_somewhere operation t (null ∷ left) (y ∷ right) results h =
     below operation t null y left right (refused_somewhere operation t left right results (before-err null _ overflow h))
+refused_somewhere operation t (parts ns ∷ left) (y ∷ right) results h =
+    below operation t (parts ns) y left right (refused_somewhere operation t left right results (before-err null _ overflow h))
+refused_somewhere operation t (whole a ∷ left) (parts ns ∷ right) results h =
+    below operation t (whole a) (parts ns) left right (refused_somewhere operation t left right results (before-err null _ overflow h))
 refused_somewhere operation t (whole a ∷ left) (null ∷ right) results h =
     below operation t (whole a) null left right (refused_somewhere operation t left right results (before-err null _ overflow h))
 refused_somewhere operation t (whole a ∷ left) (whole b ∷ right) results h =
@@ -49,6 +53,8 @@ behind_number t false n rest h = refl
 -- a refusal of the rows below stands behind any row
 behind_row : (operation : Operation) (t : WholeType) (x y : Cell) (rest : Result (List Cell) Cause) → HasResults operation → rest ≡ Err overflow → before (whole_step operation plain t x y) rest ≡ Err overflow
 behind_row operation t null y rest results h = rw h refl
+behind_row operation t (parts ns) y rest results h = rw h refl
+behind_row operation t (whole a) (parts ns) rest results h = rw h refl
 behind_row operation t (whole a) null rest results h = rw h refl
 behind_row operation t (whole a) (whole b) rest results h =
     rw (results b) (behind_number t (is_fitting_result operation t a b) (exact_result operation a b) rest h)
@@ -98,4 +104,4 @@ refused_where view (Ok x) e fact wanted both h = (λ same. cc, λ holds. let ref
 refused_where {X} view (Err f) e fact wanted both h =
     let weaker : wanted ≡ Err f → (◌≡◌ {A = Result X Error} (Err f) (Err e)) ↔ fact =
     λ g. (λ same. both.0 (g ∙ same_refusal f e (same_error f e same)), λ holds. same_refusal f e (same_error f e (sym g ∙ both.1 holds))) in
-    unless_memory-weaker f weaker h
+    UnlessMemory-weaker f weaker h

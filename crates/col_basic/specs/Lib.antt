@@ -4,4 +4,4 @@ pub use Rattle.col_model.specs.WholeStep
 pub use Rattle.col_types.specs.Answer
 pub use Rattle.col_types.specs.Column
 pub use Rattle.col_flat.specs.Parts
-pub mod Forms
+pub mod Answered

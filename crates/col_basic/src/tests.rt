@@ -1,8 +1,9 @@
 //! What no clause shows: that calls succeed, on rows whose sums are known.
 use crate::{add, add_scalar, checked_add, checked_add_scalar};
 use col_flat::PrimitiveArray;
-use col_types::{DataType, Error, Reason};
+use col_types::{DataType, Error, NativeArithmetics, Reason};
 use std::alloc::Global;
+use std::process::Abort;
 
 fn array_of(alloc: Global, slots: &[Option<i64>]) -> Result<PrimitiveArray<i64>, Error> {
     PrimitiveArray::from_options(alloc, DataType::Int64, slots)
@@ -42,7 +43,7 @@ fn a_number_stored_beneath_a_null_is_not_read(rt: HostRuntime) -> Result<(), Err
     let alloc = rt.alloc();
     let numbers = vec![in alloc; i64::MAX, 2]?;
     let validity = vec![in alloc; false, true]?;
-    let lhs = PrimitiveArray::try_new(DataType::Int64, numbers, validity)?;
+    let lhs = PrimitiveArray::from_flags(alloc, DataType::Int64, numbers, validity.as_slice())?;
     let rhs = array_of(alloc, &[Some(1), Some(1)])?;
     let sums = [None, Some(3)];
     assert!(rt; lhs.equal(&array_of(alloc, &[None, Some(2)])?));
@@ -97,5 +98,73 @@ fn lengths_come_before_rows(rt: HostRuntime) -> Result<(), Error> {
             "{count}"
         );
     }
+    Ok(())
+}
+
+// The sums of a type's greatest number, a null and its least number with 1, and with 0.
+fn expect_ends<T: NativeArithmetics>(
+    rt: &impl Abort,
+    alloc: Global,
+    data_type: DataType,
+    slots: &[Option<T>],
+) -> Result<(), Error> {
+    let lhs = PrimitiveArray::from_options(alloc, data_type, slots)?;
+    let one = T::from_i128(1).unwrap_or(T::MAX_VALUE);
+    let refused = add_scalar(alloc, &lhs, &one).err();
+    assert!(rt; refused == Some(Error::Overflow));
+    let sums = checked_add_scalar(alloc, &lhs, &one)?;
+    assert_eq!(rt; sums.len(), 3);
+    assert_eq!(rt; sums.null_count(), 2);
+    let zeros = checked_add_scalar(alloc, &lhs, &T::zero())?;
+    assert!(rt; zeros.equal(&lhs));
+    Ok(())
+}
+
+#[test]
+fn each_width_ends_at_its_greatest_number(rt: HostRuntime) -> Result<(), Error> {
+    let alloc = rt.alloc();
+    expect_ends(
+        &rt,
+        alloc,
+        DataType::Int8,
+        &[Some(i8::MAX), None, Some(i8::MIN)],
+    )?;
+    expect_ends(
+        &rt,
+        alloc,
+        DataType::Int16,
+        &[Some(i16::MAX), None, Some(i16::MIN)],
+    )?;
+    expect_ends(
+        &rt,
+        alloc,
+        DataType::Int32,
+        &[Some(i32::MAX), None, Some(i32::MIN)],
+    )?;
+    expect_ends(
+        &rt,
+        alloc,
+        DataType::Int64,
+        &[Some(i64::MAX), None, Some(i64::MIN)],
+    )?;
+    expect_ends(&rt, alloc, DataType::UInt8, &[Some(u8::MAX), None, Some(0)])?;
+    expect_ends(
+        &rt,
+        alloc,
+        DataType::UInt16,
+        &[Some(u16::MAX), None, Some(0)],
+    )?;
+    expect_ends(
+        &rt,
+        alloc,
+        DataType::UInt32,
+        &[Some(u32::MAX), None, Some(0)],
+    )?;
+    expect_ends(
+        &rt,
+        alloc,
+        DataType::UInt64,
+        &[Some(u64::MAX), None, Some(0)],
+    )?;
     Ok(())
 }
