@@ -4,6 +4,7 @@ use col_array::{AnyArray, AnyScalar};
 use col_flat::{PrimitiveArray, PrimitiveScalar};
 use col_types::{DataType, Error, Reason};
 use std::alloc::Global;
+use std::process::Abort;
 
 const LAST: Option<i64> = Some(i64::MAX);
 
@@ -46,15 +47,20 @@ fn chain(alloc: Global, steps: usize) -> Result<Expr, Error> {
     Ok(tree)
 }
 
+// Whether the array has these slots.
+fn has_slots(alloc: Global, array: &AnyArray, slots: &[Option<i64>]) -> Result<bool, Error> {
+    Ok(array.equal(&array_of(alloc, slots)?))
+}
+
 // Whether the call answered these slots, or refused so.
 fn is_answer(
     alloc: Global,
-    answer: Result<AnyArray, Error>,
+    answer: &Result<AnyArray, Error>,
     wanted: Result<&[Option<i64>], Error>,
 ) -> Result<bool, Error> {
     match (answer, wanted) {
-        (Ok(array), Ok(slots)) => Ok(array.equal(&array_of(alloc, slots)?)),
-        (Err(e), Err(wanted)) => Ok(e == wanted),
+        (Ok(array), Ok(slots)) => has_slots(alloc, array, slots),
+        (Err(e), Err(wanted)) => Ok(*e == wanted),
         _ => Ok(false),
     }
 }
@@ -164,20 +170,24 @@ fn each_row_has_its_sum(rt: HostRuntime) -> Result<(), Error> {
             .map(|slots| slots.as_slice())
             .map_err(|e| *e);
         let answer = evaluate(alloc, &table, &case.0);
-        assert!(rt; is_answer(alloc, answer, wanted)?, "case {row}");
+        assert!(rt; is_answer(alloc, &answer, wanted)?, "case {row}");
     }
+    Ok(())
+}
+
+// The type and the answer of a tree over a table.
+fn expect_answers(rt: &impl Abort, alloc: Global, table: &Table, tree: &Expr) -> Result<(), Error> {
+    assert!(rt; typed_of(alloc, table, tree)?.equal(&DataType::Int64));
+    assert_eq!(rt; evaluate(alloc, table, tree)?.len(), table.rows());
     Ok(())
 }
 
 #[test]
 fn each_call_answers_with_ample_memory(rt: HostRuntime) -> Result<(), Error> {
     let alloc = rt.alloc();
+    let tree = step(alloc, Op::CheckedAdd, Expr::Column(0), Expr::Column(1))?;
     for is_empty in [true, false] {
-        let table = table_of(alloc, is_empty)?;
-        let tree = step(alloc, Op::CheckedAdd, Expr::Column(0), Expr::Column(1))?;
-        assert!(rt; typed_of(alloc, &table, &tree)?.equal(&DataType::Int64));
-        let array = evaluate(alloc, &table, &tree)?;
-        assert_eq!(rt; array.len(), table.rows(), "{is_empty}");
+        expect_answers(&rt, alloc, &table_of(alloc, is_empty)?, &tree)?;
     }
     Ok(())
 }

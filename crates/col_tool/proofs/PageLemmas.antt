@@ -50,3 +50,7 @@ flat_map-next f xs i x h = rw (take-next xs i x h, flat_map-append, append-nil) 
 -- one more test
 pub list_any-next : {X : Type 0} (p : X → Bool) (xs : List X) (i : ℕ) (x : X) → slice_get xs i ≡ Some x → list_any p (take (i + 1) xs) ≡ (list_any p (take i xs) || p x)
 list_any-next p xs i x h = rw (take-next xs i x h) (or_push (list_any p) p refl (λ _ _. refl) (take i xs) x)
+
+-- three texts in brackets, joined by commas, behind a text
+pub three_appended : (t a b c : List ℕ) → ((((t ++ 91 ∷ []) ++ a) ++ 44 ∷ b) ++ 44 ∷ c) ++ 93 ∷ [] ≡ t ++ 91 ∷ ((a ++ 44 ∷ (b ++ 44 ∷ c)) ++ 93 ∷ [])
+three_appended t a b c = simp append_assoc

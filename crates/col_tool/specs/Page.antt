@@ -2,7 +2,7 @@
 use Rattle.std.specs.Prelude.{◌≡◌, ℕ, zero, suc, Bool, List, [], ◌++◌, map, codes, is_err, Result, Ok, Err}
 use Rattle.std.specs.Fmt.{signed_decimal}
 use Rattle.std.specs.List.{flat_map, join_with_byte, list_any}
-use Rattle.col_model.specs.Cell.{Cell, null, whole}
+use Rattle.col_model.specs.Cell.{Cell, null, whole, parts}
 use Rattle.col_types.specs.Column.{Column}
 use Rattle.col_types.specs.declared.error.Error.{Error}
 use Rattle.col_types.specs.declared.error.Error.TheVariants.{Memory, NotYetImplemented, InvalidArgumentError, Overflow, DivideByZero, OutOfRange, OutOfSpec}
@@ -10,10 +10,11 @@ use Rattle.col_eval.specs.Meaning.{outcome_of}
 use Rattle.col_tool.specs.Document.{DocumentView}
 use Rattle.col_tool.specs.TypeText.{type_text}
 
--- the text of a cell
+-- the text of a cell: a number in decimal, an interval as the list of its numbers
 abbrev pub cell_text : Cell → List ℕ
 cell_text null = codes "null"
 cell_text (whole n) = signed_decimal n
+cell_text (parts ns) = codes "[" ++ join_with_byte 44 (map signed_decimal ns) ++ codes "]"
 
 -- the cells in brackets, joined by commas
 abbrev pub cells_text : List Cell → List ℕ

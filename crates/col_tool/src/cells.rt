@@ -15,7 +15,7 @@ use crate::document::ReadError;
 use crate::texts::{read_number, read_type_name};
 use col_array::AnyArray;
 use col_flat::PrimitiveArray;
-use col_types::DataType;
+use col_types::{DataType, Error};
 use serde_json::Value;
 use std::alloc::Global;
 use std::mem;
@@ -82,8 +82,9 @@ pub fn read_column(alloc: Global, mut value: Value) -> Result<AnyArray, ReadErro
         return Err(ReadError::Malformed);
     };
     let (numbers, validity) = read_stored(alloc, &data_type, values)?;
-    match PrimitiveArray::try_new(data_type, numbers, validity) {
+    match PrimitiveArray::from_flags(alloc, data_type, numbers, validity.as_slice()) {
         Ok(array) => Ok(AnyArray::Int64(array)),
+        Err(Error::Memory) => Err(ReadError::Memory),
         Err(_) => Err(ReadError::Malformed),
     }
 }

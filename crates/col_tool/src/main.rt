@@ -1,6 +1,7 @@
 //! Evaluates the trees of a JSON document over its columns.
 #![tactic(auto)]
 
+mod cell_texts;
 mod cells;
 mod command;
 mod document;

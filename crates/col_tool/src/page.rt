@@ -2,7 +2,7 @@
 ghost use Rattle.std.specs.Prelude.{◌≡◌, ◌++◌, [], ◌∷◌, IfOk, codes, length, map};
 ghost use Rattle.std.specs.List.{join_with_byte};
 ghost use Rattle.col_types.specs.Answer.{FailsByMemory};
-ghost use Rattle.col_flat.specs.Parts.{cell_of, column_of};
+ghost use Rattle.col_flat.specs.Parts.{column_of, native_cell};
 ghost use Rattle.col_array.specs.Any.{any_column};
 ghost use Rattle.col_eval.specs.Meaning.{outcome_of};
 ghost use Rattle.col_eval.specs.Tree.{tree_of};
@@ -11,9 +11,10 @@ ghost use Rattle.col_tool.specs.Page.{IsLine, comma_before};
 ghost use Rattle.col_tool.specs.TypeText.{type_text};
 ghost use Rattle.col_tool.specs.View.{document_view};
 
+use crate::cell_texts::{Printed, push_slot};
 use crate::document::Document;
 use crate::type_texts::push_type;
-use col_array::AnyArray;
+use col_array::{AnyArray, with_typed};
 use col_eval::{Expr, Table, evaluate};
 use col_flat::PrimitiveArray;
 use col_types::Error;
@@ -120,54 +121,49 @@ fn push_column(text: &mut Vec<u8>, column: &AnyArray) -> Result<(), Error>
 {
     push_type(text, column.data_type())?;
     text.push(b' ')?;
-    match column {
-        AnyArray::Int64(array) => push_cells(text, array)?,
-    }
+    push_any_cells(text, column)?;
     text.push(b'\n')?;
     Ok(())
 }
 
+// Adds the cells of an array of any type.
+fn push_any_cells(text: &mut Vec<u8>, column: &AnyArray) -> Result<(), Error>
+    ensures cells { IfOk result
+        (λ _. text.new.items ≡ text.old.items ++ cells_text (any_column column.now).cells) }
+    ensures refused { FailsByMemory result }
+{
+    with_typed!(AnyArray, column, |array| push_cells(text, array))
+}
+
 // Adds the cells in brackets, joined by commas.
-fn push_cells(text: &mut Vec<u8>, array: &PrimitiveArray<i64>) -> Result<(), Error>
-    ensures cells { IfOk result (λ _. text.new.items ≡ text.old.items ++ cells_text (column_of array.now).cells) }
+fn push_cells<T: Printed>(text: &mut Vec<u8>, array: &PrimitiveArray<T>) -> Result<(), Error>
+    ensures cells { IfOk result
+        (λ _. text.new.items ≡ text.old.items ++ cells_text (column_of array.now).cells) }
     ensures refused { FailsByMemory result }
 {
     let mut buffer = Buffer::new();
     text.push(b'[')?;
     for row in 0..array.len() {
-        push_next_cell(text, &mut buffer, row, array.get(row))?;
+        push_next_slot(text, &mut buffer, row, array.get(row))?;
     }
     text.push(b']')?;
     Ok(())
 }
 
-// Adds the text of the cell at a row, behind a comma where it is not the first.
+// Adds the text of the slot at a row, behind a comma where it is not the first.
 #[inline(always)]
-fn push_next_cell(
+fn push_next_slot<T: Printed>(
     text: &mut Vec<u8>,
     buffer: &mut Buffer,
     row: usize,
-    slot: Option<i64>,
+    slot: Option<T>,
 ) -> Result<(), Error>
     ensures cell { IfOk result (λ _. text.new.items
-        ≡ text.old.items ++ (comma_before row ++ cell_text (cell_of slot))) }
+        ≡ text.old.items ++ (comma_before row ++ cell_text (native_cell T.numbers slot))) }
     ensures refused { FailsByMemory result }
 {
     if row > 0 {
         text.push(b',')?;
     }
-    push_cell(text, buffer, slot)
-}
-
-// Adds the text of a cell.
-#[inline(always)]
-fn push_cell(text: &mut Vec<u8>, buffer: &mut Buffer, slot: Option<i64>) -> Result<(), Error>
-    ensures cell { IfOk result (λ _. text.new.items ≡ text.old.items ++ cell_text (cell_of slot)) }
-    ensures refused { FailsByMemory result }
-{
-    match slot {
-        Some(n) => text.extend_from_slice(buffer.format(n).as_bytes())?,
-        None => text.extend_from_slice(b"null")?,
-    }
-    Ok(())
+    push_slot(text, buffer, slot)
 }

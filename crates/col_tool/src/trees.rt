@@ -85,10 +85,13 @@ fn read_parts(alloc: Global, items: &[Value]) -> Result<Vec<Part>, ReadError>
 fn only_part(mut parts: Vec<Part>) -> Result<Expr, ReadError>
     ensures { Reads tree_of result (only_tree (trees_of parts.items)) }
 {
-    match (parts.pop(), parts.pop()) {
-        (Some(part), None) => Ok(part.tree),
-        _ => Err(ReadError::Malformed),
+    let Some(part) = parts.pop() else {
+        return Err(ReadError::Malformed);
+    };
+    if !parts.is_empty() {
+        return Err(ReadError::Malformed);
     }
+    Ok(part.tree)
 }
 
 // Puts the next piece behind the parts. A refusal leaves fewer parts.

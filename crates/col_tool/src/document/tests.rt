@@ -230,6 +230,7 @@ fn document_text(alloc: Global, document: &Document) -> Result<String, AllocErro
     for i in 0..table.width() {
         match table.column(i) {
             AnyArray::Int64(array) => push_cells(&mut text, array)?,
+            _ => text.push_str("another type;")?,
         }
     }
     for i in 0..document.tree_count() {
@@ -259,6 +260,7 @@ fn push_tree(text: &mut String, tree: &Expr) -> Result<(), AllocError> {
     match tree {
         Expr::Column(position) => write!(text, "c{position}"),
         Expr::Literal(AnyScalar::Int64(scalar)) => push_slot(text, scalar.value()),
+        Expr::Literal(_) => text.push_str("another type"),
         Expr::Step(op, left, right) => {
             text.push_str("(")?;
             push_tree(text, left)?;
