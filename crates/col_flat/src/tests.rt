@@ -187,6 +187,7 @@ fn a_cut_has_the_slots_from_its_row_on(rt: HostRuntime) -> Result<(), Error> {
     let slots = [Some(7), None, Some(9), Some(10)];
     let wanted = array_of(alloc, &[None, Some(9), Some(10)])?;
     let array = array_of(alloc, &slots)?;
+    assert_eq!(rt; array.len(), 4);
     if array.len() == 4 {
         let cut = array.sliced(1, 3);
         expect_slots(&rt, &cut, &slots[1..], "from row 1");
