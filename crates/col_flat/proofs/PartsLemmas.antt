@@ -1,15 +1,15 @@
 -- Facts on the slots and cells that stored values and masks stand for.
-use Rattle.std.proofs.Common.{map, ◌≡◌, ◌≢◌, ◌↔◌, ℕ, ◌+◌, ◌<◌, suc, zero, Bool, true, false, cond, List, [], ◌∷◌, ◌++◌, length, get_or, replicate, is_some, unwrap_or, option_map, not, count_by, add-one, slice_get, IsTrue, take, drop, Option, Some, None, ℤ, pos, refl, ap, sym, ◌∙◌, arith}
+use Rattle.std.proofs.Common.{map, ◌≡◌, ◌≢◌, ◌↔◌, ℕ, ◌+◌, ◌<◌, suc, zero, Bool, true, false, cond, List, [], ◌∷◌, ◌++◌, length, get_or, replicate, is_some, unwrap_or, option_map, not, count_by, slice_get, IsTrue, take, drop, Option, Some, None, ℤ, pos, refl, ap, sym, ◌∙◌, arith}
 use Rattle.std.proofs.lemmas.List.{drop-map, length-map, take-map}
 use Rattle.std.proofs.lemmas.List.Recursion.{is_count_by}
-use Rattle.std.proofs.lemmas.Option.{slice_get-map}
 use Rattle.std.proofs.Math.Seq.{drop-nil, take-nil}
 use Rattle.std.specs.List.{list_all}
+use Rattle.col_buf.specs.Bitmap.{both}
 use Rattle.col_buf.specs.Cut.{cut}
-use Rattle.col_model.specs.Cell.{Cell, null, whole, parts}
-use Rattle.col_types.specs.Column.{Column, row_count}
+use Rattle.col_model.specs.Cell.{Cell, null}
+use Rattle.col_types.specs.Column.{row_count}
 use Rattle.col_types.specs.DataKind.{DataKind}
-use Rattle.col_flat.specs.Parts.{PrimitiveParts, HasFlags, IsMaskOf, column_of, cell_of, cut_parts, masked_slots, native_cell, null_count_of, slot_beneath, slot_cell, slots_of, stored_cell, stored_cells, value_cell, zipped_slots}
+use Rattle.col_flat.specs.Parts.{PrimitiveParts, HasFlags, IsMaskOf, column_of, cell_of, cut_parts, flags_of_both, masked_slots, native_cell, null_count_of, slot_beneath, slot_cell, slots_of, stored_cell, stored_cells, value_cell, zipped_slots}
 
 -- as many slots as values
 pub length-masked_slots : (values : List (List ℤ)) (flags : List Bool) → length (masked_slots values flags) ≡ length values
@@ -24,14 +24,6 @@ rows_are numbers t values validity a seen =
     ∙ length-map (masked_slots (map numbers values) (unwrap_or validity [])) slot_cell
     ∙ length-masked_slots (map numbers values) (unwrap_or validity [])
     ∙ length-map values numbers
-
--- the slot at a row: its value beneath its flag
-pub slice_get-masked_slots : (values : List (List ℤ)) (flags : List Bool) (i : ℕ) → slice_get (masked_slots values flags) i ≡ option_map (slot_beneath (get_or flags i true)) (slice_get values i)
-slice_get-masked_slots [] flags i = refl
-slice_get-masked_slots (ns ∷ values) [] zero = refl
-slice_get-masked_slots (ns ∷ values) [] (suc i) = slice_get-masked_slots values [] i
-slice_get-masked_slots (ns ∷ values) (b ∷ flags) zero = refl
-slice_get-masked_slots (ns ∷ values) (b ∷ flags) (suc i) = slice_get-masked_slots values flags i
 
 -- a value is no null
 value_cell-not_null : (ns : List ℤ) → value_cell ns ≢ null
@@ -173,17 +165,6 @@ masked_slots-replicate [] (suc count) h = absurd (omega arith)
 masked_slots-replicate (ns ∷ values) zero h = absurd (omega arith)
 masked_slots-replicate (ns ∷ values) (suc count) h = ap (λ (rest : List Cell). null ∷ rest) (masked_slots-replicate values count (omega arith))
 
--- the front of a list, with what stands next
-take-next : (cells : List Cell) (i : ℕ) (c : Cell) → slice_get cells i ≡ Some c → take (suc i) cells ≡ take i cells ++ c ∷ []
-take-next [] i c h = cc
-take-next (d ∷ cells) zero c h = let e : d ≡ c = cc in rw e refl
-take-next (d ∷ cells) (suc i) c h = ap (λ (rest : List Cell). d ∷ rest) (take-next cells i c h)
-
--- two fronts that agree still do with the next cell, where that is one
-pub same_fronts : (left right : List Cell) (i : ℕ) (a b : Cell) → take i left ≡ take i right → slice_get left i ≡ Some a → slice_get right i ≡ Some b → a ≡ b → take (i + 1) left ≡ take (i + 1) right
-same_fronts left right i a b fronts p q e =
-    rw (add-one, take-next left i a p, take-next right i b q, fronts, e) refl
-
 -- one more number at the end, beneath one more flag
 pub stored_cells-push : (flags : List Bool) (values : List ℤ) (b : Bool) (n : ℤ) → length flags ≡ length values → stored_cells (flags ++ b ∷ []) (values ++ n ∷ []) ≡ stored_cells flags values ++ stored_cell b n ∷ []
 stored_cells-push [] [] b n h = refl
@@ -196,7 +177,64 @@ pub stored_cell-slot : (slot : Option ℤ) → stored_cell (is_some slot) (unwra
 stored_cell-slot None = refl
 stored_cell-slot (Some n) = refl
 
--- beside no slots there are no rows
-pub zipped_slots-nil : {X Y : Type 0} (left : List (Option X)) (right : List (Option Y)) → right ≡ [] → zipped_slots left right ≡ []
-zipped_slots-nil [] right e = refl
-zipped_slots-nil (x ∷ left) right e = rw e refl
+-- rows beneath true flags on one side
+rows-right : (left right : List (List ℤ)) (flags : List Bool) → zipped_slots (masked_slots left flags) (masked_slots right flags) ≡ zipped_slots (masked_slots left []) (masked_slots right flags)
+rows-right [] right flags = refl
+rows-right (x ∷ left) [] [] = refl
+rows-right (x ∷ left) [] (b ∷ flags) = refl
+rows-right (x ∷ left) (y ∷ right) [] = refl
+rows-right (x ∷ left) (y ∷ right) (true ∷ flags) = ap (λ (rest : List (Option (List ℤ × List ℤ))). Some (x, y) ∷ rest) (rows-right left right flags)
+rows-right (x ∷ left) (y ∷ right) (false ∷ flags) = ap (λ (rest : List (Option (List ℤ × List ℤ))). None ∷ rest) (rows-right left right flags)
+
+rows-left : (left right : List (List ℤ)) (flags : List Bool) → zipped_slots (masked_slots left flags) (masked_slots right flags) ≡ zipped_slots (masked_slots left flags) (masked_slots right [])
+rows-left [] right flags = refl
+rows-left (x ∷ left) [] [] = refl
+rows-left (x ∷ left) [] (b ∷ flags) = refl
+rows-left (x ∷ left) (y ∷ right) [] = refl
+rows-left (x ∷ left) (y ∷ right) (true ∷ flags) = ap (λ (rest : List (Option (List ℤ × List ℤ))). Some (x, y) ∷ rest) (rows-left left right flags)
+rows-left (x ∷ left) (y ∷ right) (false ∷ flags) = ap (λ (rest : List (Option (List ℤ × List ℤ))). None ∷ rest) (rows-left left right flags)
+
+-- rows beneath the flags of both sides
+rows-both : (left right : List (List ℤ)) (flags others : List Bool) → length flags ≡ length left → length others ≡ length right → zipped_slots (masked_slots left (both flags others)) (masked_slots right (both flags others)) ≡ zipped_slots (masked_slots left flags) (masked_slots right others)
+rows-both [] right flags others e h = refl
+rows-both (x ∷ left) [] [] others e h = absurd (omega arith)
+rows-both (x ∷ left) [] (a ∷ flags) [] e h = refl
+rows-both (x ∷ left) [] (a ∷ flags) (b ∷ others) e h = absurd (omega arith)
+rows-both (x ∷ left) (y ∷ right) [] others e h = absurd (omega arith)
+rows-both (x ∷ left) (y ∷ right) (a ∷ flags) [] e h = absurd (omega arith)
+rows-both (x ∷ left) (y ∷ right) (true ∷ flags) (true ∷ others) e h = ap (λ (rest : List (Option (List ℤ × List ℤ))). Some (x, y) ∷ rest) (rows-both left right flags others (omega arith) (omega arith))
+rows-both (x ∷ left) (y ∷ right) (true ∷ flags) (false ∷ others) e h = ap (λ (rest : List (Option (List ℤ × List ℤ))). None ∷ rest) (rows-both left right flags others (omega arith) (omega arith))
+rows-both (x ∷ left) (y ∷ right) (false ∷ flags) (true ∷ others) e h = ap (λ (rest : List (Option (List ℤ × List ℤ))). None ∷ rest) (rows-both left right flags others (omega arith) (omega arith))
+rows-both (x ∷ left) (y ∷ right) (false ∷ flags) (false ∷ others) e h = ap (λ (rest : List (Option (List ℤ × List ℤ))). None ∷ rest) (rows-both left right flags others (omega arith) (omega arith))
+
+-- as many flags of both as of either
+length-both : (flags others : List Bool) → length flags ≡ length others → length (both flags others) ≡ length flags
+length-both [] others e = refl
+length-both (a ∷ flags) [] e = absurd (omega arith)
+length-both (a ∷ flags) (b ∷ others) e = ap suc (length-both flags others (omega arith))
+
+-- the rows of two lists of values beneath the flags of both masks are those of both lists of slots
+pub zipped_slots-of_both : (left right : List (List ℤ)) (lhs rhs : Option (List Bool)) → IsMaskOf lhs (length left) → IsMaskOf rhs (length right) → zipped_slots (masked_slots left (unwrap_or (flags_of_both lhs rhs) [])) (masked_slots right (unwrap_or (flags_of_both lhs rhs) [])) ≡ zipped_slots (masked_slots left (unwrap_or lhs [])) (masked_slots right (unwrap_or rhs []))
+zipped_slots-of_both left right None None l r = refl
+zipped_slots-of_both left right None (Some flags) l r = rows-right left right flags
+zipped_slots-of_both left right (Some flags) None l r = rows-left left right flags
+zipped_slots-of_both left right (Some flags) (Some others) l r = rows-both left right flags others l r
+
+-- the flags of both masks are a mask of lists of one length
+pub IsMaskOf-of_both : (lhs rhs : Option (List Bool)) (count : ℕ) → IsMaskOf lhs count → IsMaskOf rhs count → IsMaskOf (flags_of_both lhs rhs) count
+IsMaskOf-of_both None rhs count l r = r
+IsMaskOf-of_both (Some flags) None count l r = l
+IsMaskOf-of_both (Some flags) (Some others) count l r = length-both flags others (l ∙ sym r) ∙ l
+
+-- the mask of both arrays fits the values of either
+pub mask_fits : {T D : Type 0} (numbers : T → List ℤ) (others : D → List ℤ) (t u : DataKind) (left : List T) (right : List D) (lhs rhs mask : Option (List Bool)) (a b : PrimitiveParts) → record { data_type = t; values = map numbers left; validity = lhs } ≡ a → record { data_type = u; values = map others right; validity = rhs } ≡ b → IsMaskOf lhs (length left) → IsMaskOf rhs (length right) → row_count (column_of a) ≡ row_count (column_of b) → mask ≡ flags_of_both a.validity b.validity → IsMaskOf mask (length left)
+mask_fits numbers others t u left right lhs rhs mask a b l r fits also same is =
+    let combined : mask ≡ flags_of_both lhs rhs = rw (← l, ← r) at is in
+    let lengths : length left ≡ length right = sym (rows_are numbers t left lhs a l) ∙ same ∙ rows_are others u right rhs b r in
+    rw combined (IsMaskOf-of_both lhs rhs (length left) fits (rw (← lengths) at also))
+
+-- and beneath it the values of both arrays are their rows
+pub rows_beneath : {T D : Type 0} (numbers : T → List ℤ) (others : D → List ℤ) (t u : DataKind) (left : List T) (right : List D) (lhs rhs mask : Option (List Bool)) (a b : PrimitiveParts) → record { data_type = t; values = map numbers left; validity = lhs } ≡ a → record { data_type = u; values = map others right; validity = rhs } ≡ b → IsMaskOf lhs (length left) → IsMaskOf rhs (length right) → mask ≡ flags_of_both a.validity b.validity → zipped_slots (masked_slots (map numbers left) (unwrap_or mask [])) (masked_slots (map others right) (unwrap_or mask [])) ≡ zipped_slots (slots_of a) (slots_of b)
+rows_beneath numbers others t u left right lhs rhs mask a b l r fits also is =
+    let combined : mask ≡ flags_of_both lhs rhs = rw (← l, ← r) at is in
+    rw (combined, ← l, ← r) (zipped_slots-of_both (map numbers left) (map others right) lhs rhs (rw length-map fits) (rw length-map also))

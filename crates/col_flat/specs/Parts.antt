@@ -1,6 +1,7 @@
 -- The parts that arrays and scalars of native values are made of, and the cells they stand for.
 use Rattle.std.specs.Prelude.{◌≡◌, ℕ, ◌+◌, ℤ, Bool, true, false, List, [], ◌∷◌, length, map, Option, Some, None, option_map, unwrap_or, IsTrue, ⊤}
 use Rattle.std.specs.List.{list_all}
+use Rattle.col_buf.specs.Bitmap.{both}
 use Rattle.col_buf.specs.Cut.{cut}
 use Rattle.col_model.specs.Cell.{Cell, null, whole, parts}
 use Rattle.col_types.specs.DataKind.{DataKind}
@@ -88,6 +89,18 @@ cut_parts a offset count = record {
 abbrev pub HasFlags : Option (List Bool) → List Bool → Type 0
 HasFlags None flags = IsTrue (list_all (λ flag. flag) flags)
 HasFlags (Some mask) flags = mask ≡ flags
+
+-- two masks, where there are two, have one length
+abbrev pub HaveOneLength : Option (List Bool) → Option (List Bool) → Type 0
+HaveOneLength None right = ⊤
+HaveOneLength (Some flags) None = ⊤
+HaveOneLength (Some flags) (Some others) = length flags ≡ length others
+
+-- the flags that are true in both masks; without a mask all flags are
+abbrev pub flags_of_both : Option (List Bool) → Option (List Bool) → Option (List Bool)
+flags_of_both None right = right
+flags_of_both (Some flags) None = Some flags
+flags_of_both (Some flags) (Some others) = Some (both flags others)
 
 -- both values of two slots; null where one of the two is null
 abbrev pub both_slots : {X Y : Type 0} → Option X → Option Y → Option (X × Y)

@@ -5,6 +5,8 @@ mod primitive;
 mod scalar;
 #[cfg(test)]
 mod tests;
+mod validities;
 
 pub use primitive::{PrimitiveArray, SlotIter, SlotPairs, pairs};
 pub use scalar::PrimitiveScalar;
+pub use validities::combine_validities;

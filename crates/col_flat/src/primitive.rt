@@ -296,8 +296,10 @@ impl<T: NativeType> PrimitiveArray<T> {
         requires { row_count (column_of self.now) ≡ row_count (column_of other.now) }
         ensures { IsTrue result ↔ ((column_of self.now).cells ≡ (column_of other.now).cells) }
     {
-        for i in 0..self.len() {
-            if !is_same(self.get(i), other.get(i)) {
+        let mut slots = self.iter();
+        let mut others = other.iter();
+        while let (Some(slot), Some(other)) = (slots.next(), others.next()) {
+            if !is_same(slot, other) {
                 return false;
             }
         }

@@ -5,7 +5,7 @@ ghost use Rattle.std.specs.Option.{ForSome, option_copied};
 ghost use Rattle.col_buf.specs.Bitmap.{number_of};
 ghost use Rattle.col_flat.specs.Flags.{IsReading};
 ghost use Rattle.col_types.specs.Column.{row_count};
-ghost use Rattle.col_flat.specs.Parts.{IsMaskOf, both_slots, column_of, masked_slots, pair_numbers, slots_of, zipped_slots};
+ghost use Rattle.col_flat.specs.Parts.{IsMaskOf, column_of, flags_of_both, masked_slots, pair_numbers, slots_of, zipped_slots};
 
 use crate::primitive::PrimitiveArray;
 use col_buf::Bitmap;
@@ -133,17 +133,39 @@ impl<'a, T: NativeType> Iterator for SlotIter<'a, T> {
 /// both are.
 #[derive(Drop)]
 pub struct SlotPairs<'a, T: NativeType, D: NativeType> {
-    lhs: SlotIter<'a, T>,
-    rhs: SlotIter<'a, D>,
+    lhs: &'a [T],
+    rhs: &'a [D],
+    // for each row whether both slots are valid
+    flags: FlagsLeft<'a>,
 }
 
 impl<'a, T: NativeType, D: NativeType> Model for SlotPairs<'a, T, D> {
-    ghost use Rattle.std.specs.Prelude.{List, Option, ℤ};
-    ghost use Rattle.col_flat.specs.Parts.{zipped_slots};
+    ghost use Rattle.std.specs.Prelude.{[], List, Option, ℤ, length, map, unwrap_or};
+    ghost use Rattle.col_flat.specs.Parts.{IsMaskOf, masked_slots, zipped_slots};
 
     ghost Value = { List (Option (List ℤ × List ℤ)) };
 
-    ghost view = { λ s. zipped_slots s.lhs s.rhs };
+    ghost view = { λ s. zipped_slots
+        (masked_slots (map T.numbers s.lhs.now) (unwrap_or s.flags []))
+        (masked_slots (map D.numbers s.rhs.now) (unwrap_or s.flags [])) };
+
+    ghost invariant = { λ s. IsMaskOf s.flags (length s.lhs.now) };
+}
+
+impl<'a, T: NativeType, D: NativeType> SlotPairs<'a, T, D> {
+    // The rows of both lists of values beneath one mask.
+    fn new(lhs: &'a [T], rhs: &'a [D], mask: Option<&'a Bitmap>) -> SlotPairs<'a, T, D>
+        requires { IsMaskOf (option_copied mask) (length lhs.now) }
+        ensures { result ≡ zipped_slots
+            (masked_slots (map T.numbers lhs.now) (unwrap_or (option_copied mask.entry) []))
+            (masked_slots (map D.numbers rhs.now) (unwrap_or (option_copied mask.entry) [])) }
+    {
+        SlotPairs {
+            lhs,
+            rhs,
+            flags: FlagsLeft::new(mask),
+        }
+    }
 }
 
 impl<'a, T: NativeType, D: NativeType> Iterator for SlotPairs<'a, T, D> {
@@ -155,33 +177,27 @@ impl<'a, T: NativeType, D: NativeType> Iterator for SlotPairs<'a, T, D> {
 
     #[inline]
     fn next(&mut self) -> Option<Option<(T, D)>> {
-        let lhs = self.lhs.next()?;
-        let rhs = self.rhs.next()?;
-        Some(both_of(lhs, rhs))
+        let (left, lhs) = self.lhs.split_first()?;
+        let (right, rhs) = self.rhs.split_first()?;
+        self.lhs = lhs;
+        self.rhs = rhs;
+        if self.flags.next() {
+            Some(Some((*left, *right)))
+        } else {
+            Some(None)
+        }
     }
 }
 
-/// The rows of two arrays of one length.
+/// The rows of two arrays of one length, beneath the mask that `combine_validities` makes of both.
 pub fn pairs<'a, T: NativeType, D: NativeType>(
     lhs: &'a PrimitiveArray<T>,
     rhs: &'a PrimitiveArray<D>,
+    mask: Option<&'a Bitmap>,
 ) -> SlotPairs<'a, T, D>
-    requires { row_count (column_of lhs.now) ≡ row_count (column_of rhs.now) }
+    requires one_length { row_count (column_of lhs.now) ≡ row_count (column_of rhs.now) }
+    requires combined { option_copied mask ≡ flags_of_both lhs.now.validity rhs.now.validity }
     ensures { result ≡ zipped_slots (slots_of lhs.now) (slots_of rhs.now) }
 {
-    SlotPairs {
-        lhs: lhs.iter(),
-        rhs: rhs.iter(),
-    }
-}
-
-// Both values, where there are both.
-#[inline]
-fn both_of<T: NativeType, D: NativeType>(lhs: Option<T>, rhs: Option<D>) -> Option<(T, D)>
-    ensures { result ≡ both_slots lhs rhs }
-{
-    match (lhs, rhs) {
-        (Some(a), Some(b)) => Some((a, b)),
-        _ => None,
-    }
+    SlotPairs::new(lhs.values.as_slice(), rhs.values.as_slice(), mask)
 }

@@ -1,6 +1,6 @@
 //! The slots of arrays row by row, past a word of the mask.
 use crate::tests::array_of;
-use crate::{PrimitiveArray, pairs};
+use crate::{PrimitiveArray, combine_validities, pairs};
 use col_types::Error;
 use std::alloc::Global;
 
@@ -41,8 +41,9 @@ fn reads_pairs(alloc: Global, left: i64, right: i64) -> Result<bool, Error> {
     if lhs.len() != rhs.len() {
         return Ok(false);
     }
+    let mask = combine_validities(alloc, lhs.validity(), rhs.validity())?;
     let mut rows = Vec::new(alloc);
-    for row in pairs(&lhs, &rhs) {
+    for row in pairs(&lhs, &rhs, mask.as_ref()) {
         rows.push(row)?;
     }
     has_pairs(alloc, rows.as_slice(), left, right)

@@ -1,5 +1,4 @@
-use Rattle.std.proofs.Common.{◌≡◌, List, ℤ, Option, ap, map}
-use Rattle.col_model.specs.Cell.{Cell}
+use Rattle.std.proofs.Common.{List, ℤ, Option, ap, map}
 use Rattle.col_types.specs.DataKind.{kind_of}
 use Rattle.col_flat.specs.Parts.{slot_cell}
 use Rattle.col_flat.proofs.PartsLemmas.{masked_slots-flags}

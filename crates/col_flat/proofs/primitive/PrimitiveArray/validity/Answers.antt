@@ -1,5 +1,3 @@
-use Rattle.std.proofs.Common.{Bool, List, ℕ, Option}
-use Rattle.col_flat.specs.Parts.{IsMaskOf, PrimitiveParts}
 use Rattle.col_flat.proofs.PartsLemmas.{rows_are}
 use Rattle.col_flat.proofs.primitive.PrimitiveArray.validity.Goals as goal
 
