@@ -1,13 +1,13 @@
 -- Facts on what a closure gives for the rows of arrays.
-use Rattle.std.proofs.Common.{◌≡◌, ◌↔◌, ℕ, zero, suc, ◌<◌, ℤ, Bool, true, false, List, [], ◌∷◌, ◌++◌, length, get_or, Option, Some, None, Result, Ok, Err, IsOk, refl, sym, ap, ◌∙◌, arith, inl, inr}
-use Rattle.std.specs.List.{Contains, zip}
+use Rattle.std.proofs.Common.{◌≡◌, ◌↔◌, ℕ, zero, suc, ◌<◌, ℤ, Bool, true, false, List, [], ◌∷◌, ◌++◌, length, get_or, Option, Some, None, Result, Ok, Err, IsOk, refl, ap, arith, inl, inr}
+use Rattle.std.specs.List.{zip}
 use Rattle.std.proofs.lemmas.List.{append-nil, append_assoc, length_push}
 use Rattle.std.proofs.lemmas.Option.{some_pair_parts}
 use Rattle.col_types.specs.Answer.{ButForMemory, FailsByMemory, UnlessMemory}
 use Rattle.col_types.specs.declared.error.Error.{Error}
 use Rattle.col_types.specs.declared.error.Error.TheVariants.{Memory, NotYetImplemented, InvalidArgumentError, Overflow, DivideByZero, OutOfRange, OutOfSpec}
 use Rattle.col_flat.specs.Parts.{masked_slots, slot_beneath, zipped_slots}
-use Rattle.col_arity.specs.Rows.{AnswersWith, IsCallableAtStored, IsCallableAtValid, MapsSlots, RefusesFirst, RefusesWith}
+use Rattle.col_arity.specs.Rows.{IsCallableAtStored, IsCallableAtValid, MapsSlots, RefusesFirst}
 
 -- one slot more beneath its flag
 pub masked_slots-push : (values : List (List ℤ)) (flags : List Bool) (ns : List ℤ) (b : Bool) → length flags ≡ length values → masked_slots (values ++ ns ∷ []) (flags ++ b ∷ []) ≡ masked_slots values flags ++ slot_beneath b ns ∷ []

@@ -1,5 +1,6 @@
 -- What a closure gives for the rows of arrays.
-use Rattle.std.specs.Prelude.{◌≡◌, ◌≢◌, Bool, false, ℤ, List, [], ◌∷◌, length, Contains, zip, Option, Some, None, Result, Ok, Err, ⊤, ◌⊎◌}
+use Rattle.std.specs.Prelude.{◌≡◌, ◌≢◌, Bool, false, ℤ, pos, List, [], ◌∷◌, length, map, Contains, zip, Option, Some, None, Result, Ok, Err, ⊤, ◌⊎◌}
+use Rattle.col_model.specs.Whole.{WholeType}
 use Rattle.col_types.specs.declared.error.Error.{Error}
 use Rattle.col_types.specs.declared.error.Error.TheVariants.{InvalidArgumentError}
 use Rattle.col_types.specs.declared.error.Reason.TheVariants.{Lengths}
@@ -73,3 +74,7 @@ pub record IsMappedWithFlags {N : Type 0} (t : DataKind)
 abbrev pub IsLengths : PrimitiveParts → PrimitiveParts → Error → Type 0
 IsLengths left right e =
     (row_count (column_of left) ≢ row_count (column_of right)) × (e ≡ InvalidArgumentError Lengths)
+
+-- the numbers of the value whose fields are all 0
+abbrev pub zero_numbers : List WholeType → List ℤ
+zero_numbers types = map (λ t. pos 0) types

@@ -13,6 +13,7 @@ mod fallible;
 mod flagged;
 mod mapped;
 
+use crate::masks::{beneath, mask_of, mask_of_both};
 use col_buf::Bitmap;
 use col_flat::PrimitiveArray;
 use col_types::{DataType, Error, NativeType, Reason};
@@ -33,8 +34,9 @@ pub fn unary<I: NativeType, O: NativeType, F: Fn(I) -> O>(
         (slots_of array.now)) }
     ensures refused { FailsByMemory result }
 {
-    let slots = mapped::one(alloc, array, op)?;
-    slots.finish(alloc, data_type)
+    let values = mapped::one(alloc, array, op)?;
+    let validity = mask_of(array)?;
+    beneath(alloc, data_type, values, validity)
 }
 
 /// An array of the type with the closure's answer for each value, null where that is `None`, and
@@ -72,7 +74,8 @@ pub fn unary_with_bitmap<I: NativeType, O: NativeType, F: Fn(I) -> (O, bool)>(
     ensures refused { FailsByMemory result }
 {
     let made = flagged::one(alloc, array, op)?;
-    let array = made.0.finish(alloc, data_type)?;
+    let validity = mask_of(array)?;
+    let array = beneath(alloc, data_type, made.0, validity)?;
     let flags = Bitmap::from_bools(alloc, made.1.as_slice())?;
     Ok((array, flags))
 }
@@ -95,8 +98,9 @@ pub fn try_unary<I: NativeType, O: NativeType, F: Fn(I) -> Result<O, Error>>(
     ensures refused { IfErr result (λ e. UnlessMemory e (IsFirstRefusal I.numbers
         (λ x r. F.post op x r) (slots_of array.now) e)) }
 {
-    let slots = fallible::one(alloc, array, op)?;
-    slots.finish(alloc, data_type)
+    let values = fallible::one(alloc, array, op)?;
+    let validity = mask_of(array)?;
+    beneath(alloc, data_type, values, validity)
 }
 
 /// An array of the type with the closure's answer for each pair of values, and null where one of
@@ -122,8 +126,9 @@ pub fn binary<T: NativeType, D: NativeType, F: Fn(T, D) -> T>(
     ensures refused { IfErr result (λ e. UnlessMemory e (e ≡ Error.InvalidArgumentError Lengths)) }
 {
     check_lengths(lhs, rhs)?;
-    let slots = mapped::two(alloc, lhs, rhs, op)?;
-    slots.finish(alloc, data_type)
+    let validity = mask_of_both(alloc, lhs, rhs)?;
+    let values = mapped::two(alloc, lhs, rhs, validity.as_ref(), op)?;
+    beneath(alloc, data_type, values, validity)
 }
 
 /// An array of the type with the closure's answer for each pair of values, null where that is
@@ -150,7 +155,8 @@ pub fn binary_checked<T: NativeType, D: NativeType, F: Fn(T, D) -> Option<T>>(
     ensures refused { IfErr result (λ e. UnlessMemory e (e ≡ Error.InvalidArgumentError Lengths)) }
 {
     check_lengths(lhs, rhs)?;
-    let slots = checked::two(alloc, lhs, rhs, op)?;
+    let validity = mask_of_both(alloc, lhs, rhs)?;
+    let slots = checked::two(alloc, lhs, rhs, validity.as_ref(), op)?;
     slots.finish(alloc, data_type)
 }
 
@@ -178,8 +184,9 @@ pub fn binary_with_bitmap<T: NativeType, D: NativeType, F: Fn(T, D) -> (T, bool)
     ensures refused { IfErr result (λ e. UnlessMemory e (e ≡ Error.InvalidArgumentError Lengths)) }
 {
     check_lengths(lhs, rhs)?;
-    let made = flagged::two(alloc, lhs, rhs, op)?;
-    let array = made.0.finish(alloc, data_type)?;
+    let validity = mask_of_both(alloc, lhs, rhs)?;
+    let made = flagged::two(alloc, lhs, rhs, validity.as_ref(), op)?;
+    let array = beneath(alloc, data_type, made.0, validity)?;
     let flags = Bitmap::from_bools(alloc, made.1.as_slice())?;
     Ok((array, flags))
 }
@@ -211,8 +218,9 @@ pub fn try_binary<T: NativeType, D: NativeType, F: Fn(T, D) -> Result<T, Error>>
         (λ p r. F.post op p.0 p.1 r) (zipped_slots (slots_of lhs.now) (slots_of rhs.now)) e)) }
 {
     check_lengths(lhs, rhs)?;
-    let slots = fallible::two(alloc, lhs, rhs, op)?;
-    slots.finish(alloc, data_type)
+    let validity = mask_of_both(alloc, lhs, rhs)?;
+    let values = fallible::two(alloc, lhs, rhs, validity.as_ref(), op)?;
+    beneath(alloc, data_type, values, validity)
 }
 
 // Refuses two arrays that differ in length.

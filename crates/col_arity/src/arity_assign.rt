@@ -24,8 +24,8 @@ pub fn unary<I: NativeType, F: Fn(I) -> I>(
     ensures answer { IfOk result (λ _. IsMapped array.old.data_type
         (AnswersWith I.numbers (λ x r. F.post op x r) (λ r. Some (I.numbers r)))
         (slots_of array.old) array.new) }
-    ensures kept { OnErr result (array.new ≡ array.old) }
     ensures refused { FailsByMemory result }
+    ensures kept { OnErr result (array.new ≡ array.old) }
 {
     let data_type = array.data_type().try_clone(alloc)?;
     *array = arity::unary(alloc, array, op, data_type)?;

@@ -4,6 +4,7 @@
 mod arity;
 pub mod arity_assign;
 mod growing;
+mod masks;
 #[cfg(test)]
 mod tests;
 

@@ -203,6 +203,38 @@ fn cut_arrays_answer_as_plain_ones(rt: HostRuntime) -> Result<(), Error> {
     Ok(())
 }
 
+fn widths_of_both(alloc: Global, slots: Slots) -> Result<bool, Error> {
+    let array = array_of(alloc, slots)?;
+    let bytes = unary(alloc, &array, |a: i64| a.to_le_bytes()[0], DataType::UInt8)?;
+    let answer = binary(alloc, &array, &bytes, DataType::Int64, |a, byte: u8| {
+        a.wrapping_sub(i64::from(byte))
+    })?;
+    is_same(alloc, &answer, &[Some(256), None, Some(-256)])
+}
+
+#[test]
+fn a_closure_may_go_from_one_native_type_to_another(rt: HostRuntime) -> Result<(), Error> {
+    let alloc = rt.alloc();
+    let slots = [Some(258), None, Some(-1)];
+    assert!(rt; widths_of_both(alloc, &slots)?, "{slots:?}");
+    Ok(())
+}
+
+fn changed_beside_a_clone(alloc: Global, slots: Slots, wanted: Slots) -> Result<bool, Error> {
+    let mut array = array_of(alloc, slots)?;
+    let clone = array.try_clone(alloc)?;
+    arity_assign::unary(alloc, &mut array, |x: i64| x.wrapping_add(10))?;
+    Ok(is_same(alloc, &array, wanted)? && is_same(alloc, &clone, slots)?)
+}
+
+#[test]
+fn a_clone_keeps_its_slots(rt: HostRuntime) -> Result<(), Error> {
+    let alloc = rt.alloc();
+    let slots = [Some(5), None];
+    assert!(rt; changed_beside_a_clone(alloc, &slots, &[Some(15), None])?);
+    Ok(())
+}
+
 fn one_array(alloc: Global, slots: Slots, halves: Slots) -> Result<bool, Error> {
     let array = array_of(alloc, slots)?;
     let plain = unary(alloc, &array, |a: i64| a, DataType::Int64)?;

@@ -1,11 +1,13 @@
 //! The rows of `unary_checked` and `binary_checked`.
 ghost use Rattle.std.specs.Prelude.{◌≡◌, IfOk, None, option_map};
+ghost use Rattle.std.specs.Option.{option_copied};
 ghost use Rattle.col_types.specs.Answer.{FailsByMemory};
 ghost use Rattle.col_types.specs.Column.{row_count};
-ghost use Rattle.col_flat.specs.Parts.{column_of, pair_numbers, slots_of, zipped_slots};
+ghost use Rattle.col_flat.specs.Parts.{column_of, flags_of_both, pair_numbers, slots_of, zipped_slots};
 ghost use Rattle.col_arity.specs.Rows.{AnswersWith, IsCallableAtValid, MapsSlots};
 
 use crate::growing::Growing;
+use col_buf::Bitmap;
 use col_flat::{PrimitiveArray, pairs};
 use col_types::{Error, NativeType};
 use std::alloc::Global;
@@ -40,9 +42,11 @@ pub(super) fn two<T: NativeType, D: NativeType, F: Fn(T, D) -> Option<T>>(
     alloc: Global,
     lhs: &PrimitiveArray<T>,
     rhs: &PrimitiveArray<D>,
+    mask: Option<&Bitmap>,
     op: F,
 ) -> Result<Growing<T>, Error>
     requires one_length { row_count (column_of lhs.now) ≡ row_count (column_of rhs.now) }
+    requires combined { option_copied mask ≡ flags_of_both lhs.now.validity rhs.now.validity }
     requires callable { IsCallableAtValid (pair_numbers T.numbers D.numbers) (λ p. F.pre op p.0 p.1)
         (zipped_slots (slots_of lhs.now) (slots_of rhs.now)) }
     ensures answer { IfOk result (MapsSlots
@@ -52,7 +56,7 @@ pub(super) fn two<T: NativeType, D: NativeType, F: Fn(T, D) -> Option<T>>(
     ensures refused { FailsByMemory result }
 {
     let mut rows = Growing::with_capacity(alloc, lhs.len())?;
-    for row in pairs(lhs, rhs) {
+    for row in pairs(lhs, rhs, mask) {
         match row {
             Some(pair) => {
                 let answer = op(pair.0, pair.1);

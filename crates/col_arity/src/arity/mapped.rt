@@ -1,64 +1,67 @@
-//! The rows of `unary` and `binary`.
-ghost use Rattle.std.specs.Prelude.{◌≡◌, IfOk, None, Some};
+//! The values of what `unary` and `binary` answer.
+ghost use Rattle.std.specs.Prelude.{◌≡◌, IfOk, map};
+ghost use Rattle.std.specs.Option.{option_copied};
 ghost use Rattle.col_types.specs.Answer.{FailsByMemory};
 ghost use Rattle.col_types.specs.Column.{row_count};
-ghost use Rattle.col_flat.specs.Parts.{column_of, pair_numbers, slots_of, zipped_slots};
-ghost use Rattle.col_arity.specs.Rows.{AnswersWith, IsCallableAtValid, MapsSlots};
+ghost use Rattle.col_flat.specs.Parts.{column_of, flags_of_both, pair_numbers, slots_of, zipped_slots};
+ghost use Rattle.col_arity.specs.Rows.{AnswersWith, IsCallableAtValid, MapsSlots, zero_numbers};
 
-use crate::growing::Growing;
+use col_buf::Bitmap;
 use col_flat::{PrimitiveArray, pairs};
 use col_types::{Error, NativeType};
 use std::alloc::Global;
 
-// The rows of `unary`.
+// The closure's answer for each value, and zero at each null.
 pub(super) fn one<I: NativeType, O: NativeType, F: Fn(I) -> O>(
     alloc: Global,
     array: &PrimitiveArray<I>,
     op: F,
-) -> Result<Growing<O>, Error>
+) -> Result<Vec<O>, Error>
     requires callable { IsCallableAtValid I.numbers (λ x. F.pre op x) (slots_of array.now) }
-    ensures answer { IfOk result (MapsSlots
-        (AnswersWith I.numbers (λ x r. F.post op x r) (λ r. Some (O.numbers r)))
-        None (slots_of array.now)) }
+    ensures answer { IfOk result (λ values. MapsSlots
+        (AnswersWith I.numbers (λ x r. F.post op x r) (λ r. O.numbers r))
+        (zero_numbers O.field_types) (slots_of array.now) (map O.numbers values.items)) }
     ensures refused { FailsByMemory result }
 {
-    let mut slots = Growing::with_capacity(alloc, array.len())?;
+    let mut values = Vec::with_capacity(alloc, array.len())?;
     for slot in array.iter() {
         match slot {
             Some(value) => {
                 let answer = op(value);
-                slots.push(Some(answer))?;
+                values.push(answer)?;
             }
-            None => slots.push(None)?,
+            None => values.push(O::zero())?,
         }
     }
-    Ok(slots)
+    Ok(values)
 }
 
-// The rows of `binary`.
+// The closure's answer for each two values, and zero where one of the two slots is null.
 pub(super) fn two<T: NativeType, D: NativeType, F: Fn(T, D) -> T>(
     alloc: Global,
     lhs: &PrimitiveArray<T>,
     rhs: &PrimitiveArray<D>,
+    mask: Option<&Bitmap>,
     op: F,
-) -> Result<Growing<T>, Error>
+) -> Result<Vec<T>, Error>
     requires one_length { row_count (column_of lhs.now) ≡ row_count (column_of rhs.now) }
+    requires combined { option_copied mask ≡ flags_of_both lhs.now.validity rhs.now.validity }
     requires callable { IsCallableAtValid (pair_numbers T.numbers D.numbers) (λ p. F.pre op p.0 p.1)
         (zipped_slots (slots_of lhs.now) (slots_of rhs.now)) }
-    ensures answer { IfOk result (MapsSlots
+    ensures answer { IfOk result (λ values. MapsSlots
         (AnswersWith (pair_numbers T.numbers D.numbers) (λ p r. F.post op p.0 p.1 r)
-        (λ r. Some (T.numbers r)))
-        None (zipped_slots (slots_of lhs.now) (slots_of rhs.now))) }
+        (λ r. T.numbers r)) (zero_numbers T.field_types)
+        (zipped_slots (slots_of lhs.now) (slots_of rhs.now)) (map T.numbers values.items)) }
     ensures refused { FailsByMemory result }
 {
-    let mut rows = Growing::with_capacity(alloc, lhs.len())?;
-    for row in pairs(lhs, rhs) {
+    let mut rows = Vec::with_capacity(alloc, lhs.len())?;
+    for row in pairs(lhs, rhs, mask) {
         match row {
             Some(pair) => {
                 let answer = op(pair.0, pair.1);
-                rows.push(Some(answer))?;
+                rows.push(answer)?;
             }
-            None => rows.push(None)?,
+            None => rows.push(T::zero())?,
         }
     }
     Ok(rows)

@@ -1,6 +1,10 @@
 use Rattle.std.proofs.Common.{refl}
-use Rattle.col_arity.proofs.RowLemmas.{MapsSoFar-end, MapsSoFar-null, MapsSoFar-value, callable_rest}
+use Rattle.col_arity.proofs.RowLemmas.{MapsSoFar-end, MapsSoFar-null, MapsSoFar-value, callable_first, callable_rest}
 use Rattle.col_arity.proofs.arity.checked.one.Goals as goal
+
+pub op-answer-requires : goal.op-answer-requires
+op-answer-requires g c =
+    callable_first g.I.NativeType.numbers (λ x. goal.F-pre g c.args.op x) c.in-Some-slot.value c.loop-slot.invariant.callable (rw c.in-Some-slot.is at c.in-Some.ensures.steps)
 
 pub loop-slot-preserved : goal.loop-slot-preserved
 loop-slot-preserved g c =

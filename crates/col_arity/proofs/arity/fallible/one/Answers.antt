@@ -1,14 +1,19 @@
 use Rattle.std.proofs.Common.{refl}
 use Rattle.std.proofs.lemmas.Result.{err_from_is_err_and}
-use Rattle.col_arity.proofs.RowLemmas.{MapsSoFar-end, MapsSoFar-null, MapsSoFar-value, RefusesSoFar-end, RefusesSoFar-null, RefusesSoFar-value, UnlessMemory-from, callable_rest}
+use Rattle.col_arity.proofs.MaskLemmas.{map-more}
+use Rattle.col_arity.proofs.RowLemmas.{MapsSoFar-end, MapsSoFar-null, MapsSoFar-value, RefusesSoFar-end, RefusesSoFar-null, RefusesSoFar-value, UnlessMemory-from, callable_first, callable_rest}
 use Rattle.col_arity.proofs.arity.fallible.one.Goals as goal
+
+pub op-requires : goal.op-requires
+op-requires g c =
+    callable_first g.I.NativeType.numbers (λ x. goal.F-pre g c.args.op x) c.in-Some-slot.value c.loop-slot.invariant.callable (rw c.in-Some-slot.is at c.in-Some.ensures.steps)
 
 pub loop-slot-preserved : goal.loop-slot-preserved
 loop-slot-preserved g c =
     let is = rw c.in-None-slot.is at c.in-Some.ensures.steps in
     record {
       callable = callable_rest _ _ c.loop-slot.invariant.callable c.in-Some.ensures.steps;
-      rows = MapsSoFar-null c.loop-slot.invariant.rows is c.in_ok-push-in-None-slot.ensures.value;
+      rows = MapsSoFar-null c.loop-slot.invariant.rows is (map-more g.O.NativeType.numbers _ _ _ _ c.in_ok-push-in-None-slot.ensures.items c.zero.ensures);
       refusals = RefusesSoFar-null c.loop-slot.invariant.refusals is;
     }
 
@@ -19,7 +24,7 @@ loop-slot-preserved-in-Continue-branch-3 g c =
       callable = callable_rest _ _ c.loop-slot.invariant.callable c.in-Some.ensures.steps;
       rows = MapsSoFar-value c.loop-slot.invariant.rows is
           (record { value = c.in-Some-slot.value; answer = c.in_ok-answer-in-Some-slot.answer; is_value = refl; answers = c.in_ok-answer-in-Some-slot.ensures; is_answer = refl })
-          c.in_ok-push-in-Some-slot.ensures.value;
+          (map-more g.O.NativeType.numbers _ _ _ _ c.in_ok-push-in-Some-slot.ensures.items refl);
       refusals = RefusesSoFar-value {s = c.in_ok-answer-in-Some-slot.answer} c.loop-slot.invariant.refusals is
           (record { value = c.in-Some-slot.value; answer = c.in_ok-answer-in-Some-slot.answer; is_value = refl; answers = c.in_ok-answer-in-Some-slot.ensures; is_answer = refl });
     }

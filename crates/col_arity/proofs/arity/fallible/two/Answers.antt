@@ -1,6 +1,7 @@
 use Rattle.std.proofs.Common.{refl}
 use Rattle.std.proofs.lemmas.Result.{err_from_is_err_and}
 use Rattle.col_flat.specs.Parts.{pair_numbers}
+use Rattle.col_arity.proofs.MaskLemmas.{map-more}
 use Rattle.col_arity.proofs.RowLemmas.{MapsSoFar-end, MapsSoFar-null, MapsSoFar-value, RefusesSoFar-end, RefusesSoFar-null, RefusesSoFar-value, UnlessMemory-from, callable_first, callable_rest}
 use Rattle.col_arity.proofs.arity.fallible.two.Goals as goal
 
@@ -13,7 +14,7 @@ loop-row-preserved g c =
     let is = rw c.in-None-row.is at c.in-Some.ensures.steps in
     record {
       callable = callable_rest _ _ c.loop-row.invariant.callable c.in-Some.ensures.steps;
-      rows = MapsSoFar-null c.loop-row.invariant.rows is c.in_ok-push-in-None-row.ensures.value;
+      rows = MapsSoFar-null c.loop-row.invariant.rows is (map-more g.T.NativeType.numbers _ _ _ _ c.in_ok-push-in-None-row.ensures.items c.zero.ensures);
       refusals = RefusesSoFar-null c.loop-row.invariant.refusals is;
     }
 
@@ -24,7 +25,7 @@ loop-row-preserved-in-Continue-branch-3 g c =
       callable = callable_rest _ _ c.loop-row.invariant.callable c.in-Some.ensures.steps;
       rows = MapsSoFar-value c.loop-row.invariant.rows is
           (record { value = c.in-Some-row.pair; answer = c.in_ok-answer-in-Some-row.answer; is_value = refl; answers = c.in_ok-answer-in-Some-row.ensures; is_answer = refl })
-          c.in_ok-push-in-Some-row.ensures.value;
+          (map-more g.T.NativeType.numbers _ _ _ _ c.in_ok-push-in-Some-row.ensures.items refl);
       refusals = RefusesSoFar-value {s = c.in_ok-answer-in-Some-row.answer} c.loop-row.invariant.refusals is
           (record { value = c.in-Some-row.pair; answer = c.in_ok-answer-in-Some-row.answer; is_value = refl; answers = c.in_ok-answer-in-Some-row.ensures; is_answer = refl });
     }

@@ -1,4 +1,6 @@
-use Rattle.std.proofs.Common.{refl}
+use Rattle.std.proofs.Common.{refl, sym, ◌∙◌}
+use Rattle.std.proofs.lemmas.List.{length-map}
+use Rattle.col_arity.proofs.MaskLemmas.{map-more}
 use Rattle.col_arity.proofs.RowLemmas.{MapsSoFar-end, MapsSoFar-null, MapsSoFar-value, callable_first, callable_rest, length-more, zip-more}
 use Rattle.col_arity.proofs.arity.flagged.one.Goals as goal
 
@@ -11,8 +13,8 @@ loop-slot-preserved g c =
     let is = rw c.in-None-slot.is at c.in-Some.ensures.steps in
     record {
       callable = callable_rest _ _ c.loop-slot.invariant.callable c.in-Some.ensures.steps;
-      rows = MapsSoFar-null c.loop-slot.invariant.rows is (zip-more _ _ _ _ _ _ c.loop-slot.invariant.one_length c.in_ok-push-in-None-slot.ensures.value c.in_ok-push-in-None-slot-2.ensures.items);
-      one_length = length-more _ _ _ _ _ _ c.loop-slot.invariant.one_length c.in_ok-push-in-None-slot.ensures.value c.in_ok-push-in-None-slot-2.ensures.items;
+      rows = MapsSoFar-null c.loop-slot.invariant.rows is (zip-more _ _ _ _ _ _ (c.loop-slot.invariant.one_length ∙ sym (length-map _ _)) (map-more g.O.NativeType.numbers _ _ _ _ c.in_ok-push-in-None-slot.ensures.items c.zero.ensures) c.in_ok-push-in-None-slot-2.ensures.items);
+      one_length = length-more _ _ _ _ _ _ c.loop-slot.invariant.one_length c.in_ok-push-in-None-slot.ensures.items c.in_ok-push-in-None-slot-2.ensures.items;
     }
 
 pub loop-slot-preserved-in-Continue-branch-4 : goal.loop-slot-preserved-in-Continue-branch-4
@@ -22,8 +24,8 @@ loop-slot-preserved-in-Continue-branch-4 g c =
       callable = callable_rest _ _ c.loop-slot.invariant.callable c.in-Some.ensures.steps;
       rows = MapsSoFar-value c.loop-slot.invariant.rows is
           (record { value = c.in-Some-slot.value; answer = c.op-answer.result; is_value = refl; answers = c.op-answer.ensures; is_answer = refl })
-          (zip-more _ _ _ _ _ _ c.loop-slot.invariant.one_length c.in_ok-push-in-Some-slot.ensures.value c.in_ok-push-in-Some-slot-2.ensures.items);
-      one_length = length-more _ _ _ _ _ _ c.loop-slot.invariant.one_length c.in_ok-push-in-Some-slot.ensures.value c.in_ok-push-in-Some-slot-2.ensures.items;
+          (zip-more _ _ _ _ _ _ (c.loop-slot.invariant.one_length ∙ sym (length-map _ _)) (map-more g.O.NativeType.numbers _ _ _ _ c.in_ok-push-in-Some-slot.ensures.items refl) c.in_ok-push-in-Some-slot-2.ensures.items);
+      one_length = length-more _ _ _ _ _ _ c.loop-slot.invariant.one_length c.in_ok-push-in-Some-slot.ensures.items c.in_ok-push-in-Some-slot-2.ensures.items;
     }
 
 pub returns-clause-answer : goal.returns-clause-answer

@@ -1,7 +1,7 @@
-use Rattle.std.proofs.Common.{None, Some, false, length, ◌≡◌}
+use Rattle.std.proofs.Common.{false, length, map, ◌≡◌}
 use Rattle.std.specs.List.{zip}
 use Rattle.col_flat.specs.Parts.{slots_of}
-use Rattle.col_arity.specs.Rows.{AnswersWith, IsCallableAtValid}
+use Rattle.col_arity.specs.Rows.{AnswersWith, IsCallableAtValid, zero_numbers}
 use Rattle.col_arity.proofs.RowLemmas.{MapsSoFar}
 use Rattle.col_arity.proofs.arity.flagged.one.Given as goal
 
@@ -9,7 +9,7 @@ use Rattle.col_arity.proofs.arity.flagged.one.Given as goal
 abbrev pub invariant-loop-slot : goal.invariant-loop-slot
 invariant-loop-slot g l = record {
   callable : IsCallableAtValid g.I.NativeType.numbers (λ x. goal.F-pre g l.fn.op x) l.slot-iterator;
-  rows : MapsSoFar (AnswersWith g.I.NativeType.numbers (λ x r. goal.F-post g l.fn.op x r) (λ r. (Some (g.O.NativeType.numbers r.0), r.1)))
-      (None, false) (slots_of l.array) l.slot-iterator (zip l.slots l.flags.items);
-  one_length : length l.flags.items ≡ length l.slots;
+  rows : MapsSoFar (AnswersWith g.I.NativeType.numbers (λ x r. goal.F-post g l.fn.op x r) (λ r. (g.O.NativeType.numbers r.0, r.1)))
+      (zero_numbers g.O.NativeType.field_types, false) (slots_of l.array) l.slot-iterator (zip (map g.O.NativeType.numbers l.values.items) l.flags.items);
+  one_length : length l.flags.items ≡ length l.values.items;
 }

@@ -1,5 +1,7 @@
-use Rattle.std.proofs.Common.{refl}
+use Rattle.std.proofs.Common.{refl, sym, ◌∙◌}
+use Rattle.std.proofs.lemmas.List.{length-map}
 use Rattle.col_flat.specs.Parts.{pair_numbers}
+use Rattle.col_arity.proofs.MaskLemmas.{map-more}
 use Rattle.col_arity.proofs.RowLemmas.{MapsSoFar-end, MapsSoFar-null, MapsSoFar-value, callable_first, callable_rest, length-more, zip-more}
 use Rattle.col_arity.proofs.arity.flagged.two.Goals as goal
 
@@ -12,8 +14,8 @@ loop-row-preserved g c =
     let is = rw c.in-None-row.is at c.in-Some.ensures.steps in
     record {
       callable = callable_rest _ _ c.loop-row.invariant.callable c.in-Some.ensures.steps;
-      rows = MapsSoFar-null c.loop-row.invariant.rows is (zip-more _ _ _ _ _ _ c.loop-row.invariant.one_length c.in_ok-push-in-None-row.ensures.value c.in_ok-push-in-None-row-2.ensures.items);
-      one_length = length-more _ _ _ _ _ _ c.loop-row.invariant.one_length c.in_ok-push-in-None-row.ensures.value c.in_ok-push-in-None-row-2.ensures.items;
+      rows = MapsSoFar-null c.loop-row.invariant.rows is (zip-more _ _ _ _ _ _ (c.loop-row.invariant.one_length ∙ sym (length-map _ _)) (map-more g.T.NativeType.numbers _ _ _ _ c.in_ok-push-in-None-row.ensures.items c.zero.ensures) c.in_ok-push-in-None-row-2.ensures.items);
+      one_length = length-more _ _ _ _ _ _ c.loop-row.invariant.one_length c.in_ok-push-in-None-row.ensures.items c.in_ok-push-in-None-row-2.ensures.items;
     }
 
 pub loop-row-preserved-in-Continue-branch-4 : goal.loop-row-preserved-in-Continue-branch-4
@@ -23,8 +25,8 @@ loop-row-preserved-in-Continue-branch-4 g c =
       callable = callable_rest _ _ c.loop-row.invariant.callable c.in-Some.ensures.steps;
       rows = MapsSoFar-value c.loop-row.invariant.rows is
           (record { value = c.in-Some-row.pair; answer = c.op-answer.result; is_value = refl; answers = c.op-answer.ensures; is_answer = refl })
-          (zip-more _ _ _ _ _ _ c.loop-row.invariant.one_length c.in_ok-push-in-Some-row.ensures.value c.in_ok-push-in-Some-row-2.ensures.items);
-      one_length = length-more _ _ _ _ _ _ c.loop-row.invariant.one_length c.in_ok-push-in-Some-row.ensures.value c.in_ok-push-in-Some-row-2.ensures.items;
+          (zip-more _ _ _ _ _ _ (c.loop-row.invariant.one_length ∙ sym (length-map _ _)) (map-more g.T.NativeType.numbers _ _ _ _ c.in_ok-push-in-Some-row.ensures.items refl) c.in_ok-push-in-Some-row-2.ensures.items);
+      one_length = length-more _ _ _ _ _ _ c.loop-row.invariant.one_length c.in_ok-push-in-Some-row.ensures.items c.in_ok-push-in-Some-row-2.ensures.items;
     }
 
 pub returns-clause-answer : goal.returns-clause-answer

@@ -1,13 +1,18 @@
 use Rattle.std.proofs.Common.{refl}
-use Rattle.col_arity.proofs.RowLemmas.{MapsSoFar-end, MapsSoFar-null, MapsSoFar-value, callable_rest}
+use Rattle.col_arity.proofs.MaskLemmas.{map-more}
+use Rattle.col_arity.proofs.RowLemmas.{MapsSoFar-end, MapsSoFar-null, MapsSoFar-value, callable_first, callable_rest}
 use Rattle.col_arity.proofs.arity.mapped.one.Goals as goal
+
+pub op-answer-requires : goal.op-answer-requires
+op-answer-requires g c =
+    callable_first g.I.NativeType.numbers (λ x. goal.F-pre g c.args.op x) c.in-Some-slot.value c.loop-slot.invariant.callable (rw c.in-Some-slot.is at c.in-Some.ensures.steps)
 
 pub loop-slot-preserved : goal.loop-slot-preserved
 loop-slot-preserved g c =
     let is = rw c.in-None-slot.is at c.in-Some.ensures.steps in
     record {
       callable = callable_rest _ _ c.loop-slot.invariant.callable c.in-Some.ensures.steps;
-      rows = MapsSoFar-null c.loop-slot.invariant.rows is c.in_ok-push-in-None-slot.ensures.value;
+      rows = MapsSoFar-null c.loop-slot.invariant.rows is (map-more g.O.NativeType.numbers _ _ _ _ c.in_ok-push-in-None-slot.ensures.items c.zero.ensures);
     }
 
 pub loop-slot-preserved-in-Continue-branch-2 : goal.loop-slot-preserved-in-Continue-branch-2
@@ -17,7 +22,7 @@ loop-slot-preserved-in-Continue-branch-2 g c =
       callable = callable_rest _ _ c.loop-slot.invariant.callable c.in-Some.ensures.steps;
       rows = MapsSoFar-value c.loop-slot.invariant.rows is
           (record { value = c.in-Some-slot.value; answer = c.op-answer.result; is_value = refl; answers = c.op-answer.ensures; is_answer = refl })
-          c.in_ok-push-in-Some-slot.ensures.value;
+          (map-more g.O.NativeType.numbers _ _ _ _ c.in_ok-push-in-Some-slot.ensures.items refl);
     }
 
 pub returns-clause-answer : goal.returns-clause-answer

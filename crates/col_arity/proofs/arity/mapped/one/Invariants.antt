@@ -1,6 +1,6 @@
-use Rattle.std.proofs.Common.{None, Some}
+use Rattle.std.proofs.Common.{map}
 use Rattle.col_flat.specs.Parts.{slots_of}
-use Rattle.col_arity.specs.Rows.{AnswersWith, IsCallableAtValid}
+use Rattle.col_arity.specs.Rows.{AnswersWith, IsCallableAtValid, zero_numbers}
 use Rattle.col_arity.proofs.RowLemmas.{MapsSoFar}
 use Rattle.col_arity.proofs.arity.mapped.one.Given as goal
 
@@ -8,6 +8,6 @@ use Rattle.col_arity.proofs.arity.mapped.one.Given as goal
 abbrev pub invariant-loop-slot : goal.invariant-loop-slot
 invariant-loop-slot g l = record {
   callable : IsCallableAtValid g.I.NativeType.numbers (λ x. goal.F-pre g l.fn.op x) l.slot-iterator;
-  rows : MapsSoFar (AnswersWith g.I.NativeType.numbers (λ x r. goal.F-post g l.fn.op x r) (λ r. Some (g.O.NativeType.numbers r)))
-      None (slots_of l.array) l.slot-iterator l.slots;
+  rows : MapsSoFar (AnswersWith g.I.NativeType.numbers (λ x r. goal.F-post g l.fn.op x r) (λ r. g.O.NativeType.numbers r))
+      (zero_numbers g.O.NativeType.field_types) (slots_of l.array) l.slot-iterator (map g.O.NativeType.numbers l.values.items);
 }

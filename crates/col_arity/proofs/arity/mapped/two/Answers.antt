@@ -1,5 +1,6 @@
 use Rattle.std.proofs.Common.{refl}
 use Rattle.col_flat.specs.Parts.{pair_numbers}
+use Rattle.col_arity.proofs.MaskLemmas.{map-more}
 use Rattle.col_arity.proofs.RowLemmas.{MapsSoFar-end, MapsSoFar-null, MapsSoFar-value, callable_first, callable_rest}
 use Rattle.col_arity.proofs.arity.mapped.two.Goals as goal
 
@@ -12,7 +13,7 @@ loop-row-preserved g c =
     let is = rw c.in-None-row.is at c.in-Some.ensures.steps in
     record {
       callable = callable_rest _ _ c.loop-row.invariant.callable c.in-Some.ensures.steps;
-      rows = MapsSoFar-null c.loop-row.invariant.rows is c.in_ok-push-in-None-row.ensures.value;
+      rows = MapsSoFar-null c.loop-row.invariant.rows is (map-more g.T.NativeType.numbers _ _ _ _ c.in_ok-push-in-None-row.ensures.items c.zero.ensures);
     }
 
 pub loop-row-preserved-in-Continue-branch-2 : goal.loop-row-preserved-in-Continue-branch-2
@@ -22,7 +23,7 @@ loop-row-preserved-in-Continue-branch-2 g c =
       callable = callable_rest _ _ c.loop-row.invariant.callable c.in-Some.ensures.steps;
       rows = MapsSoFar-value c.loop-row.invariant.rows is
           (record { value = c.in-Some-row.pair; answer = c.op-answer.result; is_value = refl; answers = c.op-answer.ensures; is_answer = refl })
-          c.in_ok-push-in-Some-row.ensures.value;
+          (map-more g.T.NativeType.numbers _ _ _ _ c.in_ok-push-in-Some-row.ensures.items refl);
     }
 
 pub returns-clause-answer : goal.returns-clause-answer

@@ -1,6 +1,6 @@
-use Rattle.std.proofs.Common.{None, Some}
+use Rattle.std.proofs.Common.{map}
 use Rattle.col_flat.specs.Parts.{pair_numbers, slots_of, zipped_slots}
-use Rattle.col_arity.specs.Rows.{AnswersWith, IsCallableAtValid}
+use Rattle.col_arity.specs.Rows.{AnswersWith, IsCallableAtValid, zero_numbers}
 use Rattle.col_arity.proofs.RowLemmas.{MapsSoFar}
 use Rattle.col_arity.proofs.arity.mapped.two.Given as goal
 
@@ -8,6 +8,6 @@ use Rattle.col_arity.proofs.arity.mapped.two.Given as goal
 abbrev pub invariant-loop-row : goal.invariant-loop-row
 invariant-loop-row g l = record {
   callable : IsCallableAtValid (pair_numbers g.T.NativeType.numbers g.D.NativeType.numbers) (λ p. goal.F-pre g l.fn.op p.0 p.1) l.row-iterator;
-  rows : MapsSoFar (AnswersWith (pair_numbers g.T.NativeType.numbers g.D.NativeType.numbers) (λ p r. goal.F-post g l.fn.op p.0 p.1 r) (λ r. Some (g.T.NativeType.numbers r)))
-      None (zipped_slots (slots_of l.lhs) (slots_of l.rhs)) l.row-iterator l.rows;
+  rows : MapsSoFar (AnswersWith (pair_numbers g.T.NativeType.numbers g.D.NativeType.numbers) (λ p r. goal.F-post g l.fn.op p.0 p.1 r) (λ r. g.T.NativeType.numbers r))
+      (zero_numbers g.T.NativeType.field_types) (zipped_slots (slots_of l.lhs) (slots_of l.rhs)) l.row-iterator (map g.T.NativeType.numbers l.rows.items);
 }
