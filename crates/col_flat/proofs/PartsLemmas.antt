@@ -4,12 +4,11 @@ use Rattle.std.proofs.lemmas.List.{drop-map, length-map, take-map}
 use Rattle.std.proofs.lemmas.List.Recursion.{is_count_by}
 use Rattle.std.proofs.Math.Seq.{drop-nil, take-nil}
 use Rattle.std.specs.List.{list_all}
-use Rattle.col_buf.specs.Bitmap.{both}
 use Rattle.col_buf.specs.Cut.{cut}
 use Rattle.col_model.specs.Cell.{Cell, null}
 use Rattle.col_types.specs.Column.{row_count}
 use Rattle.col_types.specs.DataKind.{DataKind}
-use Rattle.col_flat.specs.Parts.{PrimitiveParts, HasFlags, IsMaskOf, column_of, cell_of, cut_parts, flags_of_both, masked_slots, native_cell, null_count_of, slot_beneath, slot_cell, slots_of, stored_cell, stored_cells, value_cell, zipped_slots}
+use Rattle.col_flat.specs.Parts.{PrimitiveParts, HasFlags, IsMaskOf, column_of, cell_of, cut_parts, masked_slots, native_cell, null_count_of, slot_beneath, slot_cell, slots_of, stored_cell, stored_cells, value_cell, zipped_slots}
 
 -- as many slots as values
 pub length-masked_slots : (values : List (List ℤ)) (flags : List Bool) → length (masked_slots values flags) ≡ length values
@@ -177,64 +176,39 @@ pub stored_cell-slot : (slot : Option ℤ) → stored_cell (is_some slot) (unwra
 stored_cell-slot None = refl
 stored_cell-slot (Some n) = refl
 
--- rows beneath true flags on one side
-rows-right : (left right : List (List ℤ)) (flags : List Bool) → zipped_slots (masked_slots left flags) (masked_slots right flags) ≡ zipped_slots (masked_slots left []) (masked_slots right flags)
-rows-right [] right flags = refl
-rows-right (x ∷ left) [] [] = refl
-rows-right (x ∷ left) [] (b ∷ flags) = refl
-rows-right (x ∷ left) (y ∷ right) [] = refl
-rows-right (x ∷ left) (y ∷ right) (true ∷ flags) = ap (λ (rest : List (Option (List ℤ × List ℤ))). Some (x, y) ∷ rest) (rows-right left right flags)
-rows-right (x ∷ left) (y ∷ right) (false ∷ flags) = ap (λ (rest : List (Option (List ℤ × List ℤ))). None ∷ rest) (rows-right left right flags)
+-- the rows of two lists of values beneath the flags of the valid rows
+rows_valid : (left right : List (List ℤ)) (flags others : List Bool) → zipped_slots (masked_slots left (map is_some (zipped_slots (masked_slots left flags) (masked_slots right others)))) (masked_slots right (map is_some (zipped_slots (masked_slots left flags) (masked_slots right others)))) ≡ zipped_slots (masked_slots left flags) (masked_slots right others)
+rows_valid [] right flags others = refl
+rows_valid (x ∷ left) [] [] others = refl
+rows_valid (x ∷ left) [] (a ∷ flags) others = refl
+rows_valid (x ∷ left) (y ∷ right) [] [] = ap (λ (rest : List (Option (List ℤ × List ℤ))). Some (x, y) ∷ rest) (rows_valid left right [] [])
+rows_valid (x ∷ left) (y ∷ right) [] (true ∷ others) = ap (λ (rest : List (Option (List ℤ × List ℤ))). Some (x, y) ∷ rest) (rows_valid left right [] others)
+rows_valid (x ∷ left) (y ∷ right) [] (false ∷ others) = ap (λ (rest : List (Option (List ℤ × List ℤ))). None ∷ rest) (rows_valid left right [] others)
+rows_valid (x ∷ left) (y ∷ right) (true ∷ flags) [] = ap (λ (rest : List (Option (List ℤ × List ℤ))). Some (x, y) ∷ rest) (rows_valid left right flags [])
+rows_valid (x ∷ left) (y ∷ right) (false ∷ flags) [] = ap (λ (rest : List (Option (List ℤ × List ℤ))). None ∷ rest) (rows_valid left right flags [])
+rows_valid (x ∷ left) (y ∷ right) (true ∷ flags) (true ∷ others) = ap (λ (rest : List (Option (List ℤ × List ℤ))). Some (x, y) ∷ rest) (rows_valid left right flags others)
+rows_valid (x ∷ left) (y ∷ right) (true ∷ flags) (false ∷ others) = ap (λ (rest : List (Option (List ℤ × List ℤ))). None ∷ rest) (rows_valid left right flags others)
+rows_valid (x ∷ left) (y ∷ right) (false ∷ flags) (true ∷ others) = ap (λ (rest : List (Option (List ℤ × List ℤ))). None ∷ rest) (rows_valid left right flags others)
+rows_valid (x ∷ left) (y ∷ right) (false ∷ flags) (false ∷ others) = ap (λ (rest : List (Option (List ℤ × List ℤ))). None ∷ rest) (rows_valid left right flags others)
 
-rows-left : (left right : List (List ℤ)) (flags : List Bool) → zipped_slots (masked_slots left flags) (masked_slots right flags) ≡ zipped_slots (masked_slots left flags) (masked_slots right [])
-rows-left [] right flags = refl
-rows-left (x ∷ left) [] [] = refl
-rows-left (x ∷ left) [] (b ∷ flags) = refl
-rows-left (x ∷ left) (y ∷ right) [] = refl
-rows-left (x ∷ left) (y ∷ right) (true ∷ flags) = ap (λ (rest : List (Option (List ℤ × List ℤ))). Some (x, y) ∷ rest) (rows-left left right flags)
-rows-left (x ∷ left) (y ∷ right) (false ∷ flags) = ap (λ (rest : List (Option (List ℤ × List ℤ))). None ∷ rest) (rows-left left right flags)
+-- as many rows as slots of either of two lists of one length
+length-zipped_slots : {X Y : Type 0} (xs : List (Option X)) (ys : List (Option Y)) → length xs ≡ length ys → length (zipped_slots xs ys) ≡ length xs
+length-zipped_slots [] ys e = refl
+length-zipped_slots (x ∷ xs) [] e = absurd (omega arith)
+length-zipped_slots (x ∷ xs) (y ∷ ys) e = ap suc (length-zipped_slots xs ys (omega arith))
 
--- rows beneath the flags of both sides
-rows-both : (left right : List (List ℤ)) (flags others : List Bool) → length flags ≡ length left → length others ≡ length right → zipped_slots (masked_slots left (both flags others)) (masked_slots right (both flags others)) ≡ zipped_slots (masked_slots left flags) (masked_slots right others)
-rows-both [] right flags others e h = refl
-rows-both (x ∷ left) [] [] others e h = absurd (omega arith)
-rows-both (x ∷ left) [] (a ∷ flags) [] e h = refl
-rows-both (x ∷ left) [] (a ∷ flags) (b ∷ others) e h = absurd (omega arith)
-rows-both (x ∷ left) (y ∷ right) [] others e h = absurd (omega arith)
-rows-both (x ∷ left) (y ∷ right) (a ∷ flags) [] e h = absurd (omega arith)
-rows-both (x ∷ left) (y ∷ right) (true ∷ flags) (true ∷ others) e h = ap (λ (rest : List (Option (List ℤ × List ℤ))). Some (x, y) ∷ rest) (rows-both left right flags others (omega arith) (omega arith))
-rows-both (x ∷ left) (y ∷ right) (true ∷ flags) (false ∷ others) e h = ap (λ (rest : List (Option (List ℤ × List ℤ))). None ∷ rest) (rows-both left right flags others (omega arith) (omega arith))
-rows-both (x ∷ left) (y ∷ right) (false ∷ flags) (true ∷ others) e h = ap (λ (rest : List (Option (List ℤ × List ℤ))). None ∷ rest) (rows-both left right flags others (omega arith) (omega arith))
-rows-both (x ∷ left) (y ∷ right) (false ∷ flags) (false ∷ others) e h = ap (λ (rest : List (Option (List ℤ × List ℤ))). None ∷ rest) (rows-both left right flags others (omega arith) (omega arith))
-
--- as many flags of both as of either
-length-both : (flags others : List Bool) → length flags ≡ length others → length (both flags others) ≡ length flags
-length-both [] others e = refl
-length-both (a ∷ flags) [] e = absurd (omega arith)
-length-both (a ∷ flags) (b ∷ others) e = ap suc (length-both flags others (omega arith))
-
--- the rows of two lists of values beneath the flags of both masks are those of both lists of slots
-pub zipped_slots-of_both : (left right : List (List ℤ)) (lhs rhs : Option (List Bool)) → IsMaskOf lhs (length left) → IsMaskOf rhs (length right) → zipped_slots (masked_slots left (unwrap_or (flags_of_both lhs rhs) [])) (masked_slots right (unwrap_or (flags_of_both lhs rhs) [])) ≡ zipped_slots (masked_slots left (unwrap_or lhs [])) (masked_slots right (unwrap_or rhs []))
-zipped_slots-of_both left right None None l r = refl
-zipped_slots-of_both left right None (Some flags) l r = rows-right left right flags
-zipped_slots-of_both left right (Some flags) None l r = rows-left left right flags
-zipped_slots-of_both left right (Some flags) (Some others) l r = rows-both left right flags others l r
-
--- the flags of both masks are a mask of lists of one length
-pub IsMaskOf-of_both : (lhs rhs : Option (List Bool)) (count : ℕ) → IsMaskOf lhs count → IsMaskOf rhs count → IsMaskOf (flags_of_both lhs rhs) count
-IsMaskOf-of_both None rhs count l r = r
-IsMaskOf-of_both (Some flags) None count l r = l
-IsMaskOf-of_both (Some flags) (Some others) count l r = length-both flags others (l ∙ sym r) ∙ l
-
--- the mask of both arrays fits the values of either
-pub mask_fits : {T D : Type 0} (numbers : T → List ℤ) (others : D → List ℤ) (t u : DataKind) (left : List T) (right : List D) (lhs rhs mask : Option (List Bool)) (a b : PrimitiveParts) → record { data_type = t; values = map numbers left; validity = lhs } ≡ a → record { data_type = u; values = map others right; validity = rhs } ≡ b → IsMaskOf lhs (length left) → IsMaskOf rhs (length right) → row_count (column_of a) ≡ row_count (column_of b) → mask ≡ flags_of_both a.validity b.validity → IsMaskOf mask (length left)
-mask_fits numbers others t u left right lhs rhs mask a b l r fits also same is =
-    let combined : mask ≡ flags_of_both lhs rhs = rw (← l, ← r) at is in
-    let lengths : length left ≡ length right = sym (rows_are numbers t left lhs a l) ∙ same ∙ rows_are others u right rhs b r in
-    rw combined (IsMaskOf-of_both lhs rhs (length left) fits (rw (← lengths) at also))
+-- a mask of the valid rows of two arrays fits the values of either
+pub mask_fits : {T : Type 0} (numbers : T → List ℤ) (t : DataKind) (left : List T) (lhs mask : Option (List Bool)) (a b : PrimitiveParts) → record { data_type = t; values = map numbers left; validity = lhs } ≡ a → row_count (column_of a) ≡ row_count (column_of b) → HasFlags mask (map is_some (zipped_slots (slots_of a) (slots_of b))) → IsMaskOf mask (length left)
+mask_fits numbers t left lhs mask a b l same flags =
+    let lengths : length (slots_of a) ≡ length (slots_of b) = sym (length-map (slots_of a) slot_cell) ∙ same ∙ length-map (slots_of b) slot_cell in
+    IsMaskOf-flags mask (map is_some (zipped_slots (slots_of a) (slots_of b))) (length left) flags
+    (length-map (zipped_slots (slots_of a) (slots_of b)) is_some ∙ length-zipped_slots (slots_of a) (slots_of b) lengths
+    ∙ sym (length-map (slots_of a) slot_cell) ∙ rows_are numbers t left lhs a l)
 
 -- and beneath it the values of both arrays are their rows
-pub rows_beneath : {T D : Type 0} (numbers : T → List ℤ) (others : D → List ℤ) (t u : DataKind) (left : List T) (right : List D) (lhs rhs mask : Option (List Bool)) (a b : PrimitiveParts) → record { data_type = t; values = map numbers left; validity = lhs } ≡ a → record { data_type = u; values = map others right; validity = rhs } ≡ b → IsMaskOf lhs (length left) → IsMaskOf rhs (length right) → mask ≡ flags_of_both a.validity b.validity → zipped_slots (masked_slots (map numbers left) (unwrap_or mask [])) (masked_slots (map others right) (unwrap_or mask [])) ≡ zipped_slots (slots_of a) (slots_of b)
-rows_beneath numbers others t u left right lhs rhs mask a b l r fits also is =
-    let combined : mask ≡ flags_of_both lhs rhs = rw (← l, ← r) at is in
-    rw (combined, ← l, ← r) (zipped_slots-of_both (map numbers left) (map others right) lhs rhs (rw length-map fits) (rw length-map also))
+pub rows_beneath : {T D : Type 0} (numbers : T → List ℤ) (others : D → List ℤ) (t u : DataKind) (left : List T) (right : List D) (lhs rhs mask : Option (List Bool)) (a b : PrimitiveParts) → record { data_type = t; values = map numbers left; validity = lhs } ≡ a → record { data_type = u; values = map others right; validity = rhs } ≡ b → HasFlags mask (map is_some (zipped_slots (slots_of a) (slots_of b))) → zipped_slots (masked_slots (map numbers left) (unwrap_or mask [])) (masked_slots (map others right) (unwrap_or mask [])) ≡ zipped_slots (slots_of a) (slots_of b)
+rows_beneath numbers others t u left right lhs rhs mask a b l r is =
+    let valid : List Bool = map is_some (zipped_slots (masked_slots (map numbers left) (unwrap_or lhs [])) (masked_slots (map others right) (unwrap_or rhs []))) in
+    let flags : HasFlags mask valid = rw (← l, ← r) at is in
+    rw (masked_slots-flags (map numbers left) mask valid flags, masked_slots-flags (map others right) mask valid flags, ← l, ← r)
+    (rows_valid (map numbers left) (map others right) (unwrap_or lhs []) (unwrap_or rhs []))

@@ -1,11 +1,11 @@
 //! The slots of arrays, row by row.
-ghost use Rattle.std.specs.Prelude.{[], ◌≡◌, ◌-◌, ◌%◌, ◌<◌, ◌≤◌, ◌^◌, Some, drop, length, map, option_map, slice_index_or, take, unwrap_or, true};
+ghost use Rattle.std.specs.Prelude.{[], ◌≡◌, ◌-◌, ◌%◌, ◌<◌, ◌≤◌, ◌^◌, Some, drop, is_some, length, map, option_map, slice_index_or, take, unwrap_or, true};
 ghost use Rattle.std.specs.Iterator.{YieldsFirstBy, item_count};
 ghost use Rattle.std.specs.Option.{ForSome, option_copied};
 ghost use Rattle.col_buf.specs.Bitmap.{number_of};
 ghost use Rattle.col_flat.specs.Flags.{IsReading};
 ghost use Rattle.col_types.specs.Column.{row_count};
-ghost use Rattle.col_flat.specs.Parts.{IsMaskOf, column_of, flags_of_both, masked_slots, pair_numbers, slots_of, zipped_slots};
+ghost use Rattle.col_flat.specs.Parts.{HasFlags, IsMaskOf, column_of, masked_slots, pair_numbers, slots_of, zipped_slots};
 
 use crate::primitive::PrimitiveArray;
 use col_buf::Bitmap;
@@ -189,14 +189,16 @@ impl<'a, T: NativeType, D: NativeType> Iterator for SlotPairs<'a, T, D> {
     }
 }
 
-/// The rows of two arrays of one length, beneath the mask that `combine_validities` makes of both.
+/// The rows of two arrays of one length, beneath a mask that tells which rows are valid in both, as
+/// `combine_validities` makes it.
 pub fn pairs<'a, T: NativeType, D: NativeType>(
     lhs: &'a PrimitiveArray<T>,
     rhs: &'a PrimitiveArray<D>,
     mask: Option<&'a Bitmap>,
 ) -> SlotPairs<'a, T, D>
     requires one_length { row_count (column_of lhs.now) ≡ row_count (column_of rhs.now) }
-    requires combined { option_copied mask ≡ flags_of_both lhs.now.validity rhs.now.validity }
+    requires combined { HasFlags (option_copied mask)
+        (map is_some (zipped_slots (slots_of lhs.now) (slots_of rhs.now))) }
     ensures { result ≡ zipped_slots (slots_of lhs.now) (slots_of rhs.now) }
 {
     SlotPairs::new(lhs.values.as_slice(), rhs.values.as_slice(), mask)
