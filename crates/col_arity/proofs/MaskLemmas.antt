@@ -1,93 +1,11 @@
 -- Facts on answers whose nulls are those of the arrays that they are made from.
-use Rattle.std.proofs.Common.{◌≡◌, suc, ℤ, Bool, true, false, IsTrue, List, [], ◌∷◌, ◌++◌, length, map, is_some, Option, Some, None, unwrap_or, refl, sym, ap, ◌∙◌, arith}
-use Rattle.std.specs.List.{list_all, zip}
+use Rattle.std.proofs.Common.{◌≡◌, suc, ℤ, Bool, false, List, [], ◌∷◌, ◌++◌, length, map, is_some, Option, Some, None, unwrap_or, refl, sym, ap, ◌∙◌, arith}
+use Rattle.std.specs.List.{zip}
 use Rattle.std.proofs.lemmas.List.{length-map, map_push}
-use Rattle.col_buf.specs.Bitmap.{both}
-use Rattle.col_types.specs.Column.{row_count}
 use Rattle.col_types.specs.DataKind.{DataKind}
-use Rattle.col_flat.specs.Parts.{HasFlags, IsMaskOf, PrimitiveParts, column_of, flags_of_both, masked_slots, slot_cell, slots_of, zipped_slots}
+use Rattle.col_flat.specs.Parts.{HasFlags, IsMaskOf, PrimitiveParts, masked_slots}
 use Rattle.col_flat.proofs.PartsLemmas.{IsMaskOf-flags, length-masked_slots, masked_slots-flags}
 use Rattle.col_arity.specs.Rows.{AnswersWith, IsMapped, IsMappedWithFlags, MapsSlots}
-
--- without a mask all slots are valid
-all_valid : (values : List (List ℤ)) → IsTrue (list_all (λ flag. flag) (map is_some (masked_slots values [])))
-all_valid [] = refl
-all_valid (ns ∷ values) = all_valid values
-
--- beneath a mask the slots are valid whose flags are true
-flags_are : (values : List (List ℤ)) (flags : List Bool) → length flags ≡ length values → flags ≡ map is_some (masked_slots values flags)
-flags_are [] [] e = refl
-flags_are [] (b ∷ flags) e = absurd (omega arith)
-flags_are (ns ∷ values) [] e = absurd (omega arith)
-flags_are (ns ∷ values) (true ∷ flags) e = ap (λ (rest : List Bool). true ∷ rest) (flags_are values flags (omega arith))
-flags_are (ns ∷ values) (false ∷ flags) e = ap (λ (rest : List Bool). false ∷ rest) (flags_are values flags (omega arith))
-
--- a mask tells which slots are valid
-HasFlags-slots : (values : List (List ℤ)) (mask : Option (List Bool)) → IsMaskOf mask (length values) → HasFlags mask (map is_some (masked_slots values (unwrap_or mask [])))
-HasFlags-slots values None fits = all_valid values
-HasFlags-slots values (Some flags) fits = flags_are values flags fits
-
--- a row of two lists is valid where both slots are
-is_some-zipped : {X Y : Type 0} (xs : List (Option X)) (ys : List (Option Y)) → map is_some (zipped_slots xs ys) ≡ both (map is_some xs) (map is_some ys)
-is_some-zipped [] ys = refl
-is_some-zipped (x ∷ xs) [] = refl
-is_some-zipped (None ∷ xs) (y ∷ ys) = ap (λ (rest : List Bool). false ∷ rest) (is_some-zipped xs ys)
-is_some-zipped (Some x ∷ xs) (None ∷ ys) = ap (λ (rest : List Bool). false ∷ rest) (is_some-zipped xs ys)
-is_some-zipped (Some x ∷ xs) (Some y ∷ ys) = ap (λ (rest : List Bool). true ∷ rest) (is_some-zipped xs ys)
-
--- two lists of true flags
-both-all : (left right : List Bool) → IsTrue (list_all (λ flag. flag) left) → IsTrue (list_all (λ flag. flag) right) → IsTrue (list_all (λ flag. flag) (both left right))
-both-all [] right l r = refl
-both-all (a ∷ left) [] l r = refl
-both-all (true ∷ left) (true ∷ right) l r = both-all left right l r
-both-all (false ∷ left) (b ∷ right) l r = cc
-both-all (true ∷ left) (false ∷ right) l r = cc
-
--- true flags leave the others
-both-left : (left right : List Bool) → length left ≡ length right → IsTrue (list_all (λ flag. flag) left) → right ≡ both left right
-both-left [] [] e l = refl
-both-left [] (b ∷ right) e l = absurd (omega arith)
-both-left (a ∷ left) [] e l = absurd (omega arith)
-both-left (true ∷ left) (b ∷ right) e l = ap (λ (rest : List Bool). b ∷ rest) (both-left left right (omega arith) l)
-both-left (false ∷ left) (b ∷ right) e l = cc
-
-both-right : (left right : List Bool) → length left ≡ length right → IsTrue (list_all (λ flag. flag) right) → left ≡ both left right
-both-right [] [] e r = refl
-both-right [] (b ∷ right) e r = absurd (omega arith)
-both-right (a ∷ left) [] e r = absurd (omega arith)
-both-right (true ∷ left) (true ∷ right) e r = ap (λ (rest : List Bool). true ∷ rest) (both-right left right (omega arith) r)
-both-right (false ∷ left) (true ∷ right) e r = ap (λ (rest : List Bool). false ∷ rest) (both-right left right (omega arith) r)
-both-right (a ∷ left) (false ∷ right) e r = cc
-
--- the flags of both masks are the flags of both lists
-HasFlags-of_both : (left right : Option (List Bool)) (xs ys : List Bool) → length xs ≡ length ys → HasFlags left xs → HasFlags right ys → HasFlags (flags_of_both left right) (both xs ys)
-HasFlags-of_both None None xs ys e l r = both-all xs ys l r
-HasFlags-of_both None (Some mask) xs ys e l r = r ∙ both-left xs ys e l
-HasFlags-of_both (Some mask) None xs ys e l r = l ∙ both-right xs ys e r
-HasFlags-of_both (Some mask) (Some other) xs ys e l r = rw (l, r) refl
-
--- the mask of both arrays tells which rows are valid
-HasFlags-zipped : (left right : List (List ℤ)) (lhs rhs : Option (List Bool)) → IsMaskOf lhs (length left) → IsMaskOf rhs (length right) → length left ≡ length right → HasFlags (flags_of_both lhs rhs) (map is_some (zipped_slots (masked_slots left (unwrap_or lhs [])) (masked_slots right (unwrap_or rhs []))))
-HasFlags-zipped left right lhs rhs fits others same =
-    let xs = masked_slots left (unwrap_or lhs []) in
-    let ys = masked_slots right (unwrap_or rhs []) in
-    let e : length (map is_some xs) ≡ length (map is_some ys) =
-    length-map xs is_some ∙ length-masked_slots left (unwrap_or lhs []) ∙ same
-    ∙ sym (length-masked_slots right (unwrap_or rhs [])) ∙ sym (length-map ys is_some) in
-    rw (is_some-zipped xs ys) (HasFlags-of_both lhs rhs (map is_some xs) (map is_some ys) e (HasFlags-slots left lhs fits) (HasFlags-slots right rhs others))
-
--- as many rows as values
-rows_of : (a : PrimitiveParts) → row_count (column_of a) ≡ length a.values
-rows_of a = length-map (slots_of a) slot_cell ∙ length-masked_slots a.values (unwrap_or a.validity [])
-
--- the mask of an array tells which of its slots are valid
-pub HasFlags-array : (a : PrimitiveParts) (mask : Option (List Bool)) → mask ≡ a.validity → IsMaskOf a.validity (row_count (column_of a)) → HasFlags mask (map is_some (slots_of a))
-HasFlags-array a mask is fits = rw is (HasFlags-slots a.values a.validity (rw (rows_of a) at fits))
-
--- and the mask of two arrays which of their rows are
-pub HasFlags-arrays : (a b : PrimitiveParts) (lhs rhs mask : Option (List Bool)) → lhs ≡ a.validity → rhs ≡ b.validity → IsMaskOf a.validity (row_count (column_of a)) → IsMaskOf b.validity (row_count (column_of b)) → row_count (column_of a) ≡ row_count (column_of b) → mask ≡ flags_of_both lhs rhs → HasFlags mask (map is_some (zipped_slots (slots_of a) (slots_of b)))
-HasFlags-arrays a b lhs rhs mask l r fits others same is =
-    rw (is, l, r) (HasFlags-zipped a.values b.values a.validity b.validity (rw (rows_of a) at fits) (rw (rows_of b) at others) (sym (rows_of a) ∙ same ∙ rows_of b))
 
 -- as many rows are made as there are slots
 length-made : {X S : Type 0} (allows : X → S → Type 0) (none : S) (slots : List (Option X)) (made : List S) → MapsSlots allows none slots made → length slots ≡ length made

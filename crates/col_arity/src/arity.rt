@@ -13,7 +13,7 @@ mod fallible;
 mod flagged;
 mod mapped;
 
-use crate::masks::{beneath, mask_of, mask_of_both};
+use crate::masks::{beneath, mask_of_both, mask_of_one};
 use col_buf::Bitmap;
 use col_flat::PrimitiveArray;
 use col_types::{DataType, Error, NativeType, Reason};
@@ -34,8 +34,8 @@ pub fn unary<I: NativeType, O: NativeType, F: Fn(I) -> O>(
         (slots_of array.now)) }
     ensures refused { FailsByMemory result }
 {
+    let validity = mask_of_one(array)?;
     let values = mapped::one(alloc, array, op)?;
-    let validity = mask_of(array)?;
     beneath(alloc, data_type, values, validity)
 }
 
@@ -73,8 +73,8 @@ pub fn unary_with_bitmap<I: NativeType, O: NativeType, F: Fn(I) -> (O, bool)>(
         (slots_of array.now) made.0 made.1) }
     ensures refused { FailsByMemory result }
 {
+    let validity = mask_of_one(array)?;
     let made = flagged::one(alloc, array, op)?;
-    let validity = mask_of(array)?;
     let array = beneath(alloc, data_type, made.0, validity)?;
     let flags = Bitmap::from_bools(alloc, made.1.as_slice())?;
     Ok((array, flags))
@@ -98,8 +98,8 @@ pub fn try_unary<I: NativeType, O: NativeType, F: Fn(I) -> Result<O, Error>>(
     ensures refused { IfErr result (λ e. UnlessMemory e (IsFirstRefusal I.numbers
         (λ x r. F.post op x r) (slots_of array.now) e)) }
 {
+    let validity = mask_of_one(array)?;
     let values = fallible::one(alloc, array, op)?;
-    let validity = mask_of(array)?;
     beneath(alloc, data_type, values, validity)
 }
 

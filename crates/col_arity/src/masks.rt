@@ -1,40 +1,52 @@
-//! The masks of answers whose nulls are those of the arrays that they are made from.
+//! The masks that rows are read beneath, and that answers have whose nulls are those of their operands.
 ghost use Rattle.std.specs.Prelude.{◌≡◌, IfOk, is_some, length, map};
+ghost use Rattle.std.specs.Option.{option_copied};
 ghost use Rattle.col_types.specs.Answer.{FailsByMemory};
 ghost use Rattle.col_types.specs.Column.{row_count};
 ghost use Rattle.col_types.specs.DataKind.{kind_of};
 ghost use Rattle.col_types.specs.DataType.{IsMadeOf};
-ghost use Rattle.col_flat.specs.Parts.{HasFlags, IsMaskOf, column_of, flags_of_both, slots_of, zipped_slots};
+ghost use Rattle.col_flat.specs.Parts.{HasFlags, IsMaskOf, column_of, slots_of, zipped_slots};
 
 use col_buf::{Bitmap, Buffer};
 use col_flat::{PrimitiveArray, combine_validities};
 use col_types::{DataType, Error, NativeType};
 use std::alloc::Global;
 
-// The mask of an array, which is shared.
-pub(crate) fn mask_of<I: NativeType>(array: &PrimitiveArray<I>) -> Result<Option<Bitmap>, Error>
+// The mask of an array; none where no slot is null.
+fn needed_mask<I: NativeType>(array: &PrimitiveArray<I>) -> Option<&Bitmap>
+    ensures { HasFlags (option_copied result) (map is_some (slots_of array.now)) }
+{
+    if array.null_count() == 0 {
+        None
+    } else {
+        array.validity()
+    }
+}
+
+// A mask that tells which slots of an array are valid: the array's own, which is shared, and none
+// where no slot is null.
+pub(crate) fn mask_of_one<I: NativeType>(array: &PrimitiveArray<I>) -> Result<Option<Bitmap>, Error>
     ensures value { IfOk result (λ mask. HasFlags mask (map is_some (slots_of array.now))) }
     ensures refused { FailsByMemory result }
 {
-    match array.validity() {
+    match needed_mask(array) {
         Some(mask) => Ok(Some(mask.share()?)),
         None => Ok(None),
     }
 }
 
-// A mask under which the rows of two arrays are valid whose slots are both valid.
+// A mask that tells which rows of two arrays are valid in both; none where no slot is null.
 pub(crate) fn mask_of_both<T: NativeType, D: NativeType>(
     alloc: Global,
     lhs: &PrimitiveArray<T>,
     rhs: &PrimitiveArray<D>,
 ) -> Result<Option<Bitmap>, Error>
     requires { row_count (column_of lhs.now) ≡ row_count (column_of rhs.now) }
-    ensures value { IfOk result (λ mask. mask ≡ flags_of_both lhs.now.validity rhs.now.validity) }
-    ensures flags { IfOk result (λ mask. HasFlags mask
+    ensures value { IfOk result (λ mask. HasFlags mask
         (map is_some (zipped_slots (slots_of lhs.now) (slots_of rhs.now)))) }
     ensures refused { FailsByMemory result }
 {
-    combine_validities(alloc, lhs.validity(), rhs.validity())
+    combine_validities(alloc, needed_mask(lhs), needed_mask(rhs))
 }
 
 // An array of the type with the values beneath the mask.

@@ -3,7 +3,7 @@ use crate::{
     arity_assign, binary, binary_checked, binary_with_bitmap, try_binary, try_unary, unary,
     unary_checked, unary_with_bitmap,
 };
-use col_buf::Bitmap;
+use col_buf::{Bitmap, Buffer};
 use col_flat::PrimitiveArray;
 use col_types::{DataType, Error, Reason};
 use std::alloc::Global;
@@ -152,19 +152,21 @@ fn double_of(row: i64, left: i64, right: i64) -> Option<i64> {
     Some(row.wrapping_mul(2))
 }
 
-// A row for each number below 130, with a null at each multiple of the step, cut from row 3.
-fn cut_rows(alloc: Global, step: i64) -> Result<PrimitiveArray<i64>, Error> {
+// The rows from 3 to 129, with a null at each multiple of the step, cut from a longer array that
+// begins so many rows above.
+fn cut_rows(alloc: Global, step: i64, above: u8) -> Result<PrimitiveArray<i64>, Error> {
     let mut slots = Vec::new(alloc);
-    for row in 0..130i64 {
+    for row in 3 - i64::from(above)..130 {
         let is_null = row.checked_rem(step) == Some(0);
         slots.push(if is_null { None } else { Some(row) })?;
     }
     let array = array_of(alloc, slots.as_slice())?;
     let count = array.len();
-    if count < 3 {
+    let above = usize::from(above);
+    if count < above {
         return Ok(array);
     }
-    Ok(array.sliced(3, count - 3))
+    Ok(array.sliced(above, count - above))
 }
 
 fn doubles(alloc: Global, left: i64, right: i64) -> Result<PrimitiveArray<i64>, Error> {
@@ -176,15 +178,15 @@ fn doubles(alloc: Global, left: i64, right: i64) -> Result<PrimitiveArray<i64>, 
 }
 
 fn cut_unary(alloc: Global, step: i64) -> Result<bool, Error> {
-    let array = cut_rows(alloc, step)?;
+    let array = cut_rows(alloc, step, 3)?;
     let answer = unary(alloc, &array, |a: i64| a.wrapping_mul(2), DataType::Int64)?;
     let wanted = doubles(alloc, step, 0)?;
     Ok(answer.equal(&wanted))
 }
 
 fn cut_binary(alloc: Global, left: i64, right: i64) -> Result<bool, Error> {
-    let lhs = cut_rows(alloc, left)?;
-    let rhs = cut_rows(alloc, right)?;
+    let lhs = cut_rows(alloc, left, 3)?;
+    let rhs = cut_rows(alloc, right, 8)?;
     let answer = binary(alloc, &lhs, &rhs, DataType::Int64, |a, b| a.wrapping_add(b))?;
     let wanted = doubles(alloc, left, right)?;
     Ok(answer.equal(&wanted))
@@ -200,6 +202,45 @@ fn cut_arrays_answer_as_plain_ones(rt: HostRuntime) -> Result<(), Error> {
             "nulls at each {left} and each {right}"
         );
     }
+    Ok(())
+}
+
+// The values beneath a mask whose flags are all true.
+fn all_valid(alloc: Global, values: &[i64]) -> Result<PrimitiveArray<i64>, Error> {
+    let flags = vec![in alloc; true; values.len()]?;
+    let mask = Bitmap::from_bools(alloc, flags.as_slice())?;
+    let values = Vec::from_slice(alloc, values)?;
+    let buffer = Buffer::from_vec(alloc, values).map_err(|refused| refused.0)?;
+    PrimitiveArray::try_new(DataType::Int64, buffer, Some(mask))
+}
+
+fn has_no_mask(answer: Result<PrimitiveArray<i64>, Error>) -> Result<bool, Error> {
+    let array = answer?;
+    Ok(array.validity().is_none())
+}
+
+fn masks_of_one(alloc: Global, array: &PrimitiveArray<i64>) -> Result<bool, Error> {
+    let plain = unary(alloc, array, |a: i64| a, DataType::Int64);
+    let fallible = try_unary(alloc, array, |a: i64| Ok(a), DataType::Int64);
+    let checked = unary_checked(alloc, array, positive, DataType::Int64);
+    Ok(has_no_mask(plain)? && has_no_mask(fallible)? && has_no_mask(checked)?)
+}
+
+fn masks_of_two(alloc: Global, lhs: &PrimitiveArray<i64>) -> Result<bool, Error> {
+    let plain = binary(alloc, lhs, lhs, DataType::Int64, |a, _| a);
+    let fallible = try_binary(alloc, lhs, lhs, DataType::Int64, |a, _| Ok(a));
+    let checked = binary_checked(alloc, lhs, lhs, DataType::Int64, |a, _| positive(a));
+    Ok(has_no_mask(plain)? && has_no_mask(fallible)? && has_no_mask(checked)?)
+}
+
+#[test]
+fn where_no_slot_is_null_there_is_no_mask(rt: HostRuntime) -> Result<(), Error> {
+    let alloc = rt.alloc();
+    let plain = array_of(alloc, &[Some(1), Some(2)])?;
+    assert!(rt; masks_of_one(alloc, &plain)? && masks_of_two(alloc, &plain)?);
+    let masked = all_valid(alloc, &[1, 2])?;
+    assert!(rt; masked.validity().is_some());
+    assert!(rt; masks_of_one(alloc, &masked)? && masks_of_two(alloc, &masked)?);
     Ok(())
 }
 
@@ -224,6 +265,12 @@ fn changed_beside_a_clone(alloc: Global, slots: Slots, wanted: Slots) -> Result<
     let mut array = array_of(alloc, slots)?;
     let clone = array.try_clone(alloc)?;
     arity_assign::unary(alloc, &mut array, |x: i64| x.wrapping_add(10))?;
+    arity_assign::binary(
+        alloc,
+        &mut array,
+        &clone,
+        |x: i64, y: i64| x.wrapping_sub(y),
+    )?;
     Ok(is_same(alloc, &array, wanted)? && is_same(alloc, &clone, slots)?)
 }
 
@@ -231,7 +278,7 @@ fn changed_beside_a_clone(alloc: Global, slots: Slots, wanted: Slots) -> Result<
 fn a_clone_keeps_its_slots(rt: HostRuntime) -> Result<(), Error> {
     let alloc = rt.alloc();
     let slots = [Some(5), None];
-    assert!(rt; changed_beside_a_clone(alloc, &slots, &[Some(15), None])?);
+    assert!(rt; changed_beside_a_clone(alloc, &slots, &[Some(10), None])?);
     Ok(())
 }
 

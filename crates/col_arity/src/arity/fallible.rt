@@ -1,9 +1,9 @@
 //! The values of what `try_unary` and `try_binary` answer.
-ghost use Rattle.std.specs.Prelude.{◌≡◌, IfErr, IfOk, Ok, map};
+ghost use Rattle.std.specs.Prelude.{◌≡◌, IfErr, IfOk, Ok, is_some, map};
 ghost use Rattle.std.specs.Option.{option_copied};
 ghost use Rattle.col_types.specs.Answer.{UnlessMemory};
 ghost use Rattle.col_types.specs.Column.{row_count};
-ghost use Rattle.col_flat.specs.Parts.{column_of, flags_of_both, pair_numbers, slots_of, zipped_slots};
+ghost use Rattle.col_flat.specs.Parts.{HasFlags, column_of, pair_numbers, slots_of, zipped_slots};
 ghost use Rattle.col_arity.specs.Rows.{AnswersWith, IsCallableAtValid, IsFirstRefusal, MapsSlots, zero_numbers};
 
 use col_buf::Bitmap;
@@ -47,7 +47,8 @@ pub(super) fn two<T: NativeType, D: NativeType, F: Fn(T, D) -> Result<T, Error>>
     op: F,
 ) -> Result<Vec<T>, Error>
     requires one_length { row_count (column_of lhs.now) ≡ row_count (column_of rhs.now) }
-    requires combined { option_copied mask ≡ flags_of_both lhs.now.validity rhs.now.validity }
+    requires combined { HasFlags (option_copied mask)
+        (map is_some (zipped_slots (slots_of lhs.now) (slots_of rhs.now))) }
     requires callable { IsCallableAtValid (pair_numbers T.numbers D.numbers) (λ p. F.pre op p.0 p.1)
         (zipped_slots (slots_of lhs.now) (slots_of rhs.now)) }
     ensures answer { IfOk result (λ values. MapsSlots
