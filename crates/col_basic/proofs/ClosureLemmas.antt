@@ -139,7 +139,8 @@ column_refused : (t : DataKind) (rows : Result (List Cell) Cause) (e : Error) �
 column_refused t (Ok cells) e h = cc
 column_refused t (Err cause) e h = cc
 
-same_error : {X : Type 0} (e f : Error) → ◌≡◌ {A = Result X Error} (Err e) (Err f) → e ≡ f
+-- equal refusals are of one error
+pub same_error : {X : Type 0} (e f : Error) → ◌≡◌ {A = Result X Error} (Err e) (Err f) → e ≡ f
 same_error e f h = cc
 
 -- what a kernel answers for columns of two lengths, and of one

@@ -9,11 +9,12 @@ use Rattle.col_types.specs.Column.{Column, column_answer, kernel_answer, row_cou
 use Rattle.col_types.specs.declared.error.Error.{Error}
 use Rattle.col_types.specs.declared.error.Error.TheVariants.{Overflow}
 use Rattle.col_types.proofs.AnswerLemmas.{UnlessMemory-weaker}
+use Rattle.col_basic.proofs.ClosureLemmas.{same_error}
 
 -- a cell in front hides no refusal of the rows below
-before-err : (c : Cell) (rest : Result (List Cell) Cause) (cause : Cause) → before (Ok c) rest ≡ Err cause → rest ≡ Err cause
-before-err c (Ok cells) cause h = cc
-before-err c (Err e) cause h = h
+before-refused : (c : Cell) (rest : Result (List Cell) Cause) (cause : Cause) → before (Ok c) rest ≡ Err cause → rest ≡ Err cause
+before-refused c (Ok cells) cause h = cc
+before-refused c (Err e) cause h = h
 
 -- one more row in front
 below : (operation : Operation) (t : WholeType) (x y : Cell) (left right : List Cell) → OverflowsSomewhere operation t left right → OverflowsSomewhere operation t (x ∷ left) (y ∷ right)
@@ -26,7 +27,7 @@ HasResults operation = (b : ℤ) → is_by_zero operation b ≡ false
 -- two numbers in front of rows of which the same holds
 numbers_refused : (operation : Operation) (t : WholeType) (a b : ℤ) (left right : List Cell) (fits : Bool) → HasResults operation → is_fitting_result operation t a b ≡ fits → before (formed plain t (is_fitting_result operation t a b) (exact_result operation a b)) (each_row (whole_step operation plain t) left right) ≡ Err overflow → (each_row (whole_step operation plain t) left right ≡ Err overflow → OverflowsSomewhere operation t left right) → OverflowsSomewhere operation t (whole a ∷ left) (whole b ∷ right)
 numbers_refused operation t a b left right true results fit h deeper =
-    below operation t (whole a) (whole b) left right (deeper (before-err (whole (exact_result operation a b)) _ overflow (rw fit at h)))
+    below operation t (whole a) (whole b) left right (deeper (before-refused (whole (exact_result operation a b)) _ overflow (rw fit at h)))
 numbers_refused operation t a b left right false results fit h deeper =
     (zero, record { a = a; b = b; left_cell = refl; right_cell = refl; has_result = results b; unfit = fit })
 
@@ -35,13 +36,13 @@ refused_somewhere : (operation : Operation) (t : WholeType) (left right : List C
 refused_somewhere operation t [] right results h = cc
 refused_somewhere operation t (x ∷ left) [] results h = cc
 refused_somewhere operation t (null ∷ left) (y ∷ right) results h =
-    below operation t null y left right (refused_somewhere operation t left right results (before-err null _ overflow h))
+    below operation t null y left right (refused_somewhere operation t left right results (before-refused null _ overflow h))
 refused_somewhere operation t (parts ns ∷ left) (y ∷ right) results h =
-    below operation t (parts ns) y left right (refused_somewhere operation t left right results (before-err null _ overflow h))
+    below operation t (parts ns) y left right (refused_somewhere operation t left right results (before-refused null _ overflow h))
 refused_somewhere operation t (whole a ∷ left) (parts ns ∷ right) results h =
-    below operation t (whole a) (parts ns) left right (refused_somewhere operation t left right results (before-err null _ overflow h))
+    below operation t (whole a) (parts ns) left right (refused_somewhere operation t left right results (before-refused null _ overflow h))
 refused_somewhere operation t (whole a ∷ left) (null ∷ right) results h =
-    below operation t (whole a) null left right (refused_somewhere operation t left right results (before-err null _ overflow h))
+    below operation t (whole a) null left right (refused_somewhere operation t left right results (before-refused null _ overflow h))
 refused_somewhere operation t (whole a ∷ left) (whole b ∷ right) results h =
     numbers_refused operation t a b left right _ results refl (rw (results b) at h) (refused_somewhere operation t left right results)
 
@@ -71,15 +72,15 @@ somewhere_refused operation t (x ∷ left) (y ∷ right) (suc row) results o =
     behind_row operation t x y _ results (somewhere_refused operation t left right row results (record { a = o.a; b = o.b; left_cell = o.left_cell; right_cell = o.right_cell; has_result = o.has_result; unfit = o.unfit }))
 
 -- a column of the rows is refused for overflow where they are
-column_refused : (data_type : _) (rows : Result (List Cell) Cause) → column_answer data_type rows ≡ Err Overflow → rows ≡ Err overflow
-column_refused data_type (Ok cells) h = cc
-column_refused data_type (Err overflow) h = refl
-column_refused data_type (Err divide_by_zero) h = cc
+column_overflow : (data_type : _) (rows : Result (List Cell) Cause) → column_answer data_type rows ≡ Err Overflow → rows ≡ Err overflow
+column_overflow data_type (Ok cells) h = cc
+column_overflow data_type (Err overflow) h = refl
+column_overflow data_type (Err divide_by_zero) h = cc
 
 -- the rows of two columns overflow somewhere exactly where their column is refused for it
 pub rows_overflow : (operation : Operation) (t : WholeType) (data_type : _) (left right : List Cell) → HasResults operation → (column_answer data_type (each_row (whole_step operation plain t) left right) ≡ Err Overflow) ↔ OverflowsSomewhere operation t left right
 rows_overflow operation t data_type left right results =
-    (λ h. refused_somewhere operation t left right results (column_refused data_type _ h), λ o. rw (somewhere_refused operation t left right o.0 results o.1) refl)
+    (λ h. refused_somewhere operation t left right results (column_overflow data_type _ h), λ o. rw (somewhere_refused operation t left right o.0 results o.1) refl)
 
 -- the same for what a kernel answers, whose lengths come first
 kernel_of : (operation : Operation) (t : WholeType) (left right : Column) (same : Bool) → HasResults operation → (row_count left == row_count right) ≡ same → (kernel_answer (whole_step operation plain t) left right ≡ Err Overflow) ↔ ((row_count left ≡ row_count right) × OverflowsSomewhere operation t left.cells right.cells)
@@ -91,9 +92,6 @@ kernel_of operation t left right false results same =
 
 pub kernel_overflow : (operation : Operation) (t : WholeType) (left right : Column) → HasResults operation → (kernel_answer (whole_step operation plain t) left right ≡ Err Overflow) ↔ ((row_count left ≡ row_count right) × OverflowsSomewhere operation t left.cells right.cells)
 kernel_overflow operation t left right results = kernel_of operation t left right _ results refl
-
-same_error : {X : Type 0} (e f : Error) → ◌≡◌ {A = Result X Error} (Err e) (Err f) → e ≡ f
-same_error e f h = cc
 
 same_refusal : {X : Type 0} (e f : Error) → e ≡ f → ◌≡◌ {A = Result X Error} (Err e) (Err f)
 same_refusal e f h = rw h refl
