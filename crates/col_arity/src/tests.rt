@@ -214,36 +214,6 @@ fn all_valid(alloc: Global, values: &[i64]) -> Result<PrimitiveArray<i64>, Error
     PrimitiveArray::try_new(DataType::Int64, buffer, Some(mask))
 }
 
-fn has_no_mask(answer: Result<PrimitiveArray<i64>, Error>) -> Result<bool, Error> {
-    let array = answer?;
-    Ok(array.validity().is_none())
-}
-
-fn masks_of_one(alloc: Global, array: &PrimitiveArray<i64>) -> Result<bool, Error> {
-    let plain = unary(alloc, array, |a: i64| a, DataType::Int64);
-    let fallible = try_unary(alloc, array, |a: i64| Ok(a), DataType::Int64);
-    let checked = unary_checked(alloc, array, positive, DataType::Int64);
-    Ok(has_no_mask(plain)? && has_no_mask(fallible)? && has_no_mask(checked)?)
-}
-
-fn masks_of_two(alloc: Global, lhs: &PrimitiveArray<i64>) -> Result<bool, Error> {
-    let plain = binary(alloc, lhs, lhs, DataType::Int64, |a, _| a);
-    let fallible = try_binary(alloc, lhs, lhs, DataType::Int64, |a, _| Ok(a));
-    let checked = binary_checked(alloc, lhs, lhs, DataType::Int64, |a, _| positive(a));
-    Ok(has_no_mask(plain)? && has_no_mask(fallible)? && has_no_mask(checked)?)
-}
-
-#[test]
-fn where_no_slot_is_null_there_is_no_mask(rt: HostRuntime) -> Result<(), Error> {
-    let alloc = rt.alloc();
-    let plain = array_of(alloc, &[Some(1), Some(2)])?;
-    assert!(rt; masks_of_one(alloc, &plain)? && masks_of_two(alloc, &plain)?);
-    let masked = all_valid(alloc, &[1, 2])?;
-    assert!(rt; masked.validity().is_some());
-    assert!(rt; masks_of_one(alloc, &masked)? && masks_of_two(alloc, &masked)?);
-    Ok(())
-}
-
 fn widths_of_both(alloc: Global, slots: Slots) -> Result<bool, Error> {
     let array = array_of(alloc, slots)?;
     let bytes = unary(alloc, &array, |a: i64| a.to_le_bytes()[0], DataType::UInt8)?;
@@ -261,42 +231,29 @@ fn a_closure_may_go_from_one_native_type_to_another(rt: HostRuntime) -> Result<(
     Ok(())
 }
 
-fn changed_beside_a_clone(alloc: Global, slots: Slots, wanted: Slots) -> Result<bool, Error> {
-    let mut array = array_of(alloc, slots)?;
-    let clone = array.try_clone(alloc)?;
-    arity_assign::unary(alloc, &mut array, |x: i64| x.wrapping_add(10))?;
-    arity_assign::binary(
-        alloc,
-        &mut array,
-        &clone,
-        |x: i64, y: i64| x.wrapping_sub(y),
-    )?;
-    Ok(is_same(alloc, &array, wanted)? && is_same(alloc, &clone, slots)?)
+// Whether the mask is there exactly where a slot is null.
+fn has_mask_for_nulls(array: &PrimitiveArray<i64>) -> bool {
+    array.validity().is_some() == (array.null_count() > 0)
 }
 
-#[test]
-fn a_clone_keeps_its_slots(rt: HostRuntime) -> Result<(), Error> {
-    let alloc = rt.alloc();
-    let slots = [Some(5), None];
-    assert!(rt; changed_beside_a_clone(alloc, &slots, &[Some(10), None])?);
-    Ok(())
+fn one_array(alloc: Global, array: &PrimitiveArray<i64>, positives: Slots) -> Result<bool, Error> {
+    let plain = unary(alloc, array, |a: i64| a, DataType::Int64)?;
+    let fallible = try_unary(alloc, array, |a: i64| Ok(a), DataType::Int64)?;
+    let checked = unary_checked(alloc, array, positive, DataType::Int64)?;
+    let is_masked = has_mask_for_nulls(&plain) && has_mask_for_nulls(&fallible);
+    let is_answer = plain.equal(array) && fallible.equal(array);
+    let is_checked = has_mask_for_nulls(&checked) && is_same(alloc, &checked, positives)?;
+    Ok(is_masked && is_answer && is_checked)
 }
 
-fn one_array(alloc: Global, slots: Slots, halves: Slots) -> Result<bool, Error> {
-    let array = array_of(alloc, slots)?;
-    let plain = unary(alloc, &array, |a: i64| a, DataType::Int64)?;
-    let fallible = try_unary(alloc, &array, |a: i64| Ok(a), DataType::Int64)?;
-    let checked = unary_checked(alloc, &array, positive, DataType::Int64)?;
-    Ok(plain.equal(&array) && fallible.equal(&array) && is_same(alloc, &checked, halves)?)
-}
-
-fn two_arrays(alloc: Global, slots: Slots, halves: Slots) -> Result<bool, Error> {
-    let lhs = array_of(alloc, slots)?;
-    let rhs = array_of(alloc, halves)?;
-    let plain = binary(alloc, &lhs, &rhs, DataType::Int64, |a, _| a)?;
-    let fallible = try_binary(alloc, &lhs, &rhs, DataType::Int64, |a, _| Ok(a))?;
-    let checked = binary_checked(alloc, &lhs, &lhs, DataType::Int64, |a, _| positive(a))?;
-    Ok(plain.equal(&rhs) && fallible.equal(&rhs) && checked.equal(&rhs))
+fn two_arrays(alloc: Global, lhs: &PrimitiveArray<i64>, positives: Slots) -> Result<bool, Error> {
+    let rhs = array_of(alloc, positives)?;
+    let plain = binary(alloc, lhs, &rhs, DataType::Int64, |a, _| a)?;
+    let fallible = try_binary(alloc, lhs, &rhs, DataType::Int64, |a, _| Ok(a))?;
+    let checked = binary_checked(alloc, lhs, lhs, DataType::Int64, |a, _| positive(a))?;
+    let is_masked = has_mask_for_nulls(&plain) && has_mask_for_nulls(&fallible);
+    let is_answer = plain.equal(&rhs) && fallible.equal(&rhs);
+    Ok(is_masked && is_answer && has_mask_for_nulls(&checked) && checked.equal(&rhs))
 }
 
 fn positive(a: i64) -> Option<i64> {
@@ -306,9 +263,20 @@ fn positive(a: i64) -> Option<i64> {
 #[test]
 fn each_call_answers_with_ample_memory(rt: HostRuntime) -> Result<(), Error> {
     let alloc = rt.alloc();
-    let slots = [Some(3), None, Some(-3)];
-    let halves = [Some(3), None, None];
-    assert!(rt; one_array(alloc, &slots, &halves)?, "one array");
-    assert!(rt; two_arrays(alloc, &slots, &halves)?, "two arrays");
+    let array = array_of(alloc, &[Some(3), None, Some(-3)])?;
+    let positives = [Some(3), None, None];
+    assert!(rt; one_array(alloc, &array, &positives)?, "one array");
+    assert!(rt; two_arrays(alloc, &array, &positives)?, "two arrays");
+    Ok(())
+}
+
+#[test]
+fn where_no_slot_is_null_there_is_no_mask(rt: HostRuntime) -> Result<(), Error> {
+    let alloc = rt.alloc();
+    let positives = [Some(1), Some(2)];
+    for array in [all_valid(alloc, &[1, 2])?, array_of(alloc, &positives)?] {
+        assert!(rt; one_array(alloc, &array, &positives)?, "one array");
+        assert!(rt; two_arrays(alloc, &array, &positives)?, "two arrays");
+    }
     Ok(())
 }
