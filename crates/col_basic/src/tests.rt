@@ -121,44 +121,13 @@ fn expect_ends<T: NativeArithmetics>(
 }
 
 #[test]
-fn each_width_ends_at_its_greatest_number(rt: HostRuntime) -> Result<(), Error> {
+fn other_widths_end_at_their_greatest_numbers(rt: HostRuntime) -> Result<(), Error> {
     let alloc = rt.alloc();
     expect_ends(
         &rt,
         alloc,
         DataType::Int8,
         &[Some(i8::MAX), None, Some(i8::MIN)],
-    )?;
-    expect_ends(
-        &rt,
-        alloc,
-        DataType::Int16,
-        &[Some(i16::MAX), None, Some(i16::MIN)],
-    )?;
-    expect_ends(
-        &rt,
-        alloc,
-        DataType::Int32,
-        &[Some(i32::MAX), None, Some(i32::MIN)],
-    )?;
-    expect_ends(
-        &rt,
-        alloc,
-        DataType::Int64,
-        &[Some(i64::MAX), None, Some(i64::MIN)],
-    )?;
-    expect_ends(&rt, alloc, DataType::UInt8, &[Some(u8::MAX), None, Some(0)])?;
-    expect_ends(
-        &rt,
-        alloc,
-        DataType::UInt16,
-        &[Some(u16::MAX), None, Some(0)],
-    )?;
-    expect_ends(
-        &rt,
-        alloc,
-        DataType::UInt32,
-        &[Some(u32::MAX), None, Some(0)],
     )?;
     expect_ends(
         &rt,
