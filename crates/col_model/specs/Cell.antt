@@ -1,13 +1,26 @@
 -- What a column holds at one row, and why a row is refused.
-use Rattle.std.specs.Prelude.{ℤ, List}
+use Rattle.std.specs.Prelude.{ℕ, ℤ, Bool, List}
 
--- a null, a whole number, or the numbers of an interval's parts: a null has no value
-pub data Cell : Type 0 where
-  null : Cell
-  whole : ℤ → Cell
-  parts : List ℤ → Cell
+-- a null, a whole number, a truth value, the numbers of an interval's parts, the bytes of a text or of
+-- a binary value, or the cells of a list's elements: a null has no value
+mutual
+  pub data Cell : Type 0 where
+    null : Cell
+    whole : ℤ → Cell
+    truth : Bool → Cell
+    parts : List ℤ → Cell
+    octets : List ℕ → Cell
+    list : Elements → Cell
 
--- why a step refuses a row
+  -- the cells of a list's elements, in their order
+  pub data Elements : Type 0 where
+    no_elements : Elements
+    element : Cell → Elements → Elements
+
+-- why a step or a cast refuses a row
 pub data Cause : Type 0 where
   overflow : Cause
   divide_by_zero : Cause
+  out_of_range : Cause
+  out_of_spec : Cause
+  row_length : Cause

@@ -1,7 +1,7 @@
 -- One step on two cells of whole numbers, by operation, form and type.
 use Rattle.std.specs.Prelude.{◌≡◌, ℕ, ℤ, pos, ◌+ℤ◌, ◌-ℤ◌, ◌*ℤ◌, int_div, int_rem, Bool, false, not, ◌&&◌, if◌then◌else◌, List, [], ◌∷◌, slice_get, Option, Some, None, Result, Ok, Err}
 use Rattle.std.specs.Ordering.{int_eq}
-use Rattle.col_model.specs.Cell.{Cell, null, whole, parts, Cause, overflow, divide_by_zero}
+use Rattle.col_model.specs.Cell.{Cell, null, whole, Cause, overflow, divide_by_zero}
 use Rattle.col_model.specs.Whole.{WholeType, is_fitting, wrapped_number, nearest_number}
 
 -- what is worked out
@@ -51,11 +51,8 @@ is_overflowing operation t a b =
 
 -- the flag beside the cell of an overflowing form: false where one of the two is no whole number
 abbrev pub is_flagged : Operation → WholeType → Cell → Cell → Bool
-is_flagged operation t null b = false
-is_flagged operation t (parts ns) b = false
-is_flagged operation t (whole a) null = false
-is_flagged operation t (whole a) (parts ns) = false
 is_flagged operation t (whole a) (whole b) = is_overflowing operation t a b
+is_flagged operation t _ _ = false
 
 -- the exact number where there is one and it fits, else none
 abbrev pub checked_result : Operation → WholeType → ℤ → ℤ → Option ℤ
@@ -82,16 +79,13 @@ overflow_answer saturating t n = Ok (whole (nearest_number t n))
 abbrev pub formed : Form → WholeType → Bool → ℤ → Result Cell Cause
 formed form t fits n = if fits then Ok (whole n) else overflow_answer form t n
 
--- a step on two cells: a null beside anything gives null, and no refusal, and so does a cell that
--- is no whole number; a divisor of 0 comes before what fits
+-- a step on two cells: of two whole numbers a divisor of 0 comes before what fits; a null beside
+-- anything gives null, and no refusal, and so does a cell that is no whole number
 abbrev pub whole_step : Operation → Form → WholeType → Cell → Cell → Result Cell Cause
-whole_step operation form t null b = Ok null
-whole_step operation form t (parts ns) b = Ok null
-whole_step operation form t (whole a) null = Ok null
-whole_step operation form t (whole a) (parts ns) = Ok null
 whole_step operation form t (whole a) (whole b) =
     if is_by_zero operation b then by_zero_answer form
     else formed form t (is_fitting_result operation t a b) (exact_result operation a b)
+whole_step operation form t _ _ = Ok null
 
 -- a cell before the cells of the rows below, or the first of the causes
 abbrev pub before : Result Cell Cause → Result (List Cell) Cause → Result (List Cell) Cause
