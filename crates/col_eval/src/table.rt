@@ -22,7 +22,7 @@ impl Model for Table {
     ghost use Rattle.col_types.specs.Column.{Column, is_table, table_row_count};
     ghost use Rattle.col_array.specs.Any.{any_column};
     ghost use Rattle.std.specs.Coded.{codes};
-    ghost use Rattle.col_types.specs.KindCode.{kind_code};
+    ghost use Rattle.col_types.proofs.KindCode.{kind_code};
 
     ghost Value = { List Column };
 

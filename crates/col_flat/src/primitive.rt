@@ -33,7 +33,7 @@ impl<T: NativeType> Model for PrimitiveArray<T> {
     ghost use Rattle.std.specs.Coded.{codes};
     ghost use Rattle.col_types.specs.DataKind.{kind_of};
     ghost use Rattle.col_types.specs.DataType.{IsMadeOf};
-    ghost use Rattle.col_types.specs.KindCode.{kind_code};
+    ghost use Rattle.col_types.proofs.KindCode.{kind_code};
     ghost use Rattle.col_flat.specs.Parts.{IsMaskOf, PrimitiveParts};
 
     ghost Value = { PrimitiveParts };

@@ -23,7 +23,7 @@ impl<T: NativeType> Model for PrimitiveScalar<T> {
     ghost use Rattle.std.specs.Coded.{codes};
     ghost use Rattle.col_types.specs.DataKind.{kind_of};
     ghost use Rattle.col_types.specs.DataType.{IsMadeOf};
-    ghost use Rattle.col_types.specs.KindCode.{kind_code};
+    ghost use Rattle.col_types.proofs.KindCode.{kind_code};
     ghost use Rattle.col_flat.specs.Parts.{ScalarParts};
 
     ghost Value = { ScalarParts };

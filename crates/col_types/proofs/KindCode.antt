@@ -4,10 +4,10 @@ use Rattle.std.specs.Coded.{Coded, code_by, coded×, coded_list, coded_ℕ}
 use Rattle.std.proofs.Common.{ap}
 use Rattle.col_types.specs.DataKind.{DataKind}
 use Rattle.col_types.specs.DataKind as kind
-use Rattle.col_types.specs.UnitNumber.{unit_number, unit_at, unit_at-unit_number}
-use Rattle.col_types.specs.UnitNumber.{span_number, span_at, span_at-span_number}
-use Rattle.col_types.specs.UnitNumber.{key_number, key_at, key_at-key_number}
-use Rattle.col_types.specs.UnitNumber.{flag_number, flag_number-one}
+use Rattle.col_types.proofs.UnitNumber.{unit_number, unit_at, unit_at-unit_number}
+use Rattle.col_types.proofs.UnitNumber.{span_number, span_at, span_at-span_number}
+use Rattle.col_types.proofs.UnitNumber.{key_number, key_at, key_at-key_number}
+use Rattle.col_types.proofs.UnitNumber.{flag_number, flag_number-one}
 
 -- a level of a type: the number of its variant, two numbers, and a text
 abbrev pub Level : Type 0

@@ -1,2 +1,4 @@
 pub mod AnswerLemmas
+pub mod KindCode
+pub mod UnitNumber
 pub mod WholeLemmas

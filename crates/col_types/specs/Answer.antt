@@ -1,18 +1,14 @@
 -- What a call that may want memory answers.
 use Rattle.std.specs.Prelude.{◌≡◌, ◌↔◌, Result, Ok, Err, ⊤}
-use Rattle.col_model.specs.Cell.{Cause, overflow, divide_by_zero}
+use Rattle.col_model.specs.Cell.{Cause, overflow, divide_by_zero, out_of_range, out_of_spec, row_length}
 use Rattle.col_types.specs.declared.error.Error.{Error}
-use Rattle.col_types.specs.declared.error.Error.TheVariants.{Memory, NotYetImplemented, InvalidArgumentError, Overflow, DivideByZero, OutOfRange, OutOfSpec}
+use Rattle.col_types.specs.declared.error.Error.TheVariants.{Memory, InvalidArgumentError, Overflow, DivideByZero, OutOfRange, OutOfSpec}
+use Rattle.col_types.specs.declared.error.Reason.TheVariants.{RowLength}
 
 -- the fact, for each answer but want of memory: that one is free
 abbrev pub UnlessMemory : Error → Type 0 → Type 0
 UnlessMemory Memory fact = ⊤
-UnlessMemory NotYetImplemented fact = fact
-UnlessMemory (InvalidArgumentError reason) fact = fact
-UnlessMemory Overflow fact = fact
-UnlessMemory DivideByZero fact = fact
-UnlessMemory OutOfRange fact = fact
-UnlessMemory OutOfSpec fact = fact
+UnlessMemory _ fact = fact
 
 -- the fact, but for want of memory
 abbrev pub ButForMemory : {X : Type 0} → Result X Error → Type 0 → Type 0
@@ -37,6 +33,9 @@ FailsByMemory (Err e) = e ≡ Memory
 abbrev pub error_of : Cause → Error
 error_of overflow = Overflow
 error_of divide_by_zero = DivideByZero
+error_of out_of_range = OutOfRange
+error_of out_of_spec = OutOfSpec
+error_of row_length = InvalidArgumentError RowLength
 
 -- a row's cause as the error that a call answers
 abbrev pub as_errors : {X : Type 0} → Result X Cause → Result X Error

@@ -1,5 +1,6 @@
 -- Columns, tables, and what a kernel answers for two columns.
-use Rattle.std.specs.Prelude.{ℕ, Bool, ◌==◌, if◌then◌else◌, List, [], ◌∷◌, length, map, replicate, slice_index_or, Result, Ok, Err}
+use Rattle.std.specs.Prelude.{ℕ, Bool, ◌==◌, if◌then◌else◌, List, [], ◌∷◌, length, map, replicate}
+use Rattle.std.specs.Prelude.{slice_index_or, Result, Ok, Err}
 use Rattle.std.specs.List.{list_all}
 use Rattle.col_model.specs.Cell.{Cell, null, Cause}
 use Rattle.col_model.specs.WholeStep.{each_row}
@@ -39,10 +40,13 @@ abbrev pub column_answer : DataKind → Result (List Cell) Cause → Result Colu
 column_answer t (Ok cells) = Ok (record { data_type = t; cells = cells })
 column_answer t (Err cause) = Err (error_of cause)
 
--- what a kernel answers for two columns: their lengths first, then its step at each row; the answer has the left type
-abbrev pub kernel_answer : (Cell → Cell → Result Cell Cause) → Column → Column → Result Column Error
+-- what a kernel answers for two columns: their lengths first, then its step at each row; the answer
+-- has the left type
+abbrev pub kernel_answer : (Cell → Cell → Result Cell Cause) → Column → Column
+    → Result Column Error
 kernel_answer step left right =
-    if row_count left == row_count right then column_answer left.data_type (each_row step left.cells right.cells)
+    if row_count left == row_count right
+    then column_answer left.data_type (each_row step left.cells right.cells)
     else Err (InvalidArgumentError Lengths)
 
 -- what a kernel answers for a column and a scalar: the scalar's cell stands beside each row

@@ -3,10 +3,9 @@ pub use Rattle.col_model.specs.Cell
 pub use Rattle.col_model.specs.Whole
 pub use Rattle.col_model.specs.WholeStep
 pub mod Answer
+pub mod CellOf
 pub mod Column
 pub mod DataKind
 pub mod DataType
 pub mod ErrorNumber
-pub mod KindCode
 pub mod NativeFields
-pub mod UnitNumber

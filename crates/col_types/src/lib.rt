@@ -4,8 +4,6 @@
 mod datatypes;
 mod error;
 mod native;
-#[cfg(test)]
-mod tests;
 mod text;
 mod types;
 
