@@ -5,8 +5,6 @@ mod arity;
 pub mod arity_assign;
 mod growing;
 mod masks;
-#[cfg(test)]
-mod tests;
 
 pub use arity::{
     binary, binary_checked, binary_with_bitmap, try_binary, try_unary, unary, unary_checked,

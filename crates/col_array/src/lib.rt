@@ -3,8 +3,6 @@
 
 mod any;
 mod any_scalar;
-#[cfg(test)]
-mod tests;
 mod typed;
 
 pub use any::AnyArray;

@@ -2,7 +2,5 @@
 #![tactic(auto)]
 
 mod basic;
-#[cfg(test)]
-mod tests;
 
 pub use basic::add::{add, add_scalar, checked_add, checked_add_scalar};

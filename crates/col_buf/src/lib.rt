@@ -3,8 +3,6 @@
 
 mod bitmap;
 mod buffer;
-#[cfg(test)]
-mod tests;
 
 pub use bitmap::Bitmap;
 pub use buffer::Buffer;

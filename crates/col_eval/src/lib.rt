@@ -5,8 +5,6 @@ mod evaluation;
 mod expr;
 pub mod laws;
 mod table;
-#[cfg(test)]
-mod tests;
 mod typing;
 
 pub use evaluation::evaluate;

@@ -3,8 +3,6 @@
 
 mod primitive;
 mod scalar;
-#[cfg(test)]
-mod tests;
 mod validities;
 
 pub use primitive::{PrimitiveArray, SlotIter, SlotPairs, pairs};
