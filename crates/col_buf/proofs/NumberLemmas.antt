@@ -22,12 +22,6 @@ pub bit_of-mod : (n k i : ℕ) → i < k → bit_of (n % 2 ^ k) i ≡ bit_of n i
 bit_of-mod n k i h = sym (bit_at_cat_low (n / 2 ^ k) k (n % 2 ^ k) i h)
     ∙ ap (λ m. bit_of m i) (shr_split n k)
 
--- a remainder has no bits from its width on
-pub bit_of-mod_above : (n k i : ℕ) → k ≤ i → bit_of (n % 2 ^ k) i ≡ 0
-bit_of-mod_above n k i h =
-    let p : 0 < 2 ^ k = pow_pos k in
-    bit_at_above (n % 2 ^ k) k i (omega arith) h
-
 -- a shift to the right moves the bits down
 pub bit_of-shr : (n k i : ℕ) → bit_of (n / 2 ^ k) i ≡ bit_of n (k + i)
 bit_of-shr n k i = ap (λ m. m % 2) (shr-shr n k i)

@@ -32,8 +32,8 @@ impl Model for Bitmap {
 }
 
 impl Bitmap {
-    /// The `length` bits of the bytes from bit `offset` on, the least bit of a byte first. No byte
-    /// is copied or moved.
+    /// The `length` bits of the bytes from bit `offset` on, the least bit of a byte first. The bytes
+    /// stay in their buffer.
     ///
     /// Refused: `OutOfSpec` where the bytes have fewer bits.
     pub fn try_new(bytes: Buffer<u8>, offset: usize, length: usize) -> Result<Bitmap, Error>
@@ -85,7 +85,7 @@ impl Bitmap {
         self.count - set
     }
 
-    /// Another holder of the same values. No value is copied.
+    /// Another holder of the same values.
     pub fn share(&self) -> Result<Bitmap, Error>
         ensures value { IfOk result (λ bitmap. bitmap ≡ self.now) }
         ensures refused { FailsByMemory result }
@@ -98,7 +98,7 @@ impl Bitmap {
         })
     }
 
-    /// The `length` values from the place `offset` on. No value is copied or moved.
+    /// The `length` values from the place `offset` on, in the same bytes.
     pub fn sliced(self, offset: usize, length: usize) -> Self
         requires { IsWithin self offset length }
         ensures { result ≡ cut self offset length }

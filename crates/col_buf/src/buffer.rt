@@ -61,7 +61,7 @@ impl<T> Buffer<T> {
         &values.as_slice()[self.start..self.start + self.count]
     }
 
-    /// The `length` values from the place `offset` on. No value is copied or moved.
+    /// The `length` values from the place `offset` on, in the same list.
     pub fn sliced(self, offset: usize, length: usize) -> Self
         requires { IsWithin self offset length }
         ensures { result ≡ cut self offset length }
@@ -75,7 +75,7 @@ impl<T> Buffer<T> {
 }
 
 impl<T: Drop> Buffer<T> {
-    /// Another holder of the same values. No value is copied.
+    /// Another holder of the same values.
     pub fn share(&self) -> Result<Buffer<T>, Error>
         ensures value { IfOk result (λ buffer. buffer ≡ self.now) }
         ensures refused { FailsByMemory result }

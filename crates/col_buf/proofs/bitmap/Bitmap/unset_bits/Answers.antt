@@ -13,9 +13,7 @@ more c = ap₂ (λ m n. m + ones n) c.loop-i.invariant c.chunk.ensures
     ∙ sym (set_count_more c.args.self.now c.loop-i.i)
 
 pub chunk-requires : goal.chunk-requires
-chunk-requires c =
-    let n = length-view _ _ _ _ c.self.view_is in
-    omega arith
+chunk-requires c = let n = length-view _ _ _ _ c.self.view_is in omega arith
 
 pub overflow_add-set : goal.overflow_add-set
 overflow_add-set c =
