@@ -1,13 +1,16 @@
 #!/usr/bin/env python3
 """Times `col_tool eval` beside Python's own json module, on one large document.
 
-    python3 bench/eval.py [--rows N] [--seed S] [--runs K] [--program PATH]
+    python3 bench/eval.py [--rows N] [--seed S] [--runs K] [--program PATH] [--beside]
 
 It makes a document of three Int64 columns and one tree, `c0 c1 add c2 add`, from the seed, and
 then, in turn, runs `col_tool eval` on it and loads the same file by `json.load` in a process of
 its own. Of each it prints the least seconds of the runs, MB/s and the greatest memory, and then
 the ratio of the seconds: below 1, `eval` is ahead. The seconds of `eval` are those of the whole
 process, from its start to its end; those of `json` are of the call of `load` alone.
+
+With `--beside` it also times, once each and where they are installed, whole processes of jq on
+the same document, and of Miller and sqlite3 on the same table as CSV, working out the same sums.
 
 It stands on Python's standard library alone, and is no part of the tests. The program has to
 be built first: `rt run` in crates/col_tool builds it.
@@ -16,6 +19,7 @@ import argparse
 import json
 import os
 import random
+import shutil
 import subprocess
 import sys
 import tempfile
@@ -42,6 +46,34 @@ def document(rows, seed):
     return json.dumps({"columns": columns, "trees": TREES}, separators=(",", ":")).encode()
 
 
+def table(rows, seed):
+    """The same columns as CSV, a null as an empty field."""
+    columns = [column["values"] for column in json.loads(document(rows, seed))["columns"]]
+    lines = ["c0,c1,c2"]
+    lines += [",".join("" if cell is None else str(cell) for cell in row) for row in zip(*columns)]
+    return ("\n".join(lines) + "\n").encode()
+
+
+def beside(folder, document_path, rows, seed):
+    """Lines on other programs that work out the same sums."""
+    csv = os.path.join(folder, "table.csv")
+    make = [sys.executable, __file__, "--rows", str(rows), "--seed", str(seed), "--write-csv", csv]
+    subprocess.run(make, check=True)
+    sums = "[.columns[].values] | transpose | map(if any(.[]; . == null) then null else add end)"
+    query = "select nullif(c0, '') + nullif(c1, '') + nullif(c2, '') from t;"
+    programs = (
+        ("jq", ["jq", "-c", sums, document_path]),
+        ("Miller", ["mlr", "--icsv", "--ocsv", "put", "$s = $c0 + $c1 + $c2", "then", "cut", "-f", "s", csv]),
+        ("sqlite3", ["sqlite3", ":memory:", "-cmd", f".import --csv {csv} t", query]),
+    )
+    for name, arguments in programs:
+        if shutil.which(arguments[0]) is None:
+            continue
+        with open(os.path.join(folder, "beside"), "wb") as sink:
+            seconds, memory, status = run(arguments, subprocess.DEVNULL, sink)
+        yield f"{name:<18} {seconds:7.3f} s {memory:22.0f} MB at most, status {status}"
+
+
 def run(arguments, stdin, stdout):
     """Seconds, greatest memory in MB, and status of one process."""
     start = time.perf_counter()
@@ -60,11 +92,17 @@ def main():
     parser.add_argument("--seed", type=int, default=1)
     parser.add_argument("--runs", type=int, default=5)
     parser.add_argument("--program", default=program)
+    parser.add_argument("--beside", action="store_true")
     parser.add_argument("--write", metavar="PATH", help="only write the document there")
+    parser.add_argument("--write-csv", metavar="PATH", help="only write the table there, as CSV")
     options = parser.parse_args()
     if options.write:
         with open(options.write, "wb") as file:
             file.write(document(options.rows, options.seed))
+        return
+    if options.write_csv:
+        with open(options.write_csv, "wb") as file:
+            file.write(table(options.rows, options.seed))
         return
     if not os.path.exists(options.program):
         sys.exit(f"bench: no program at {options.program}")
@@ -90,12 +128,15 @@ def main():
                     sys.exit(f"bench: json ended with status {status}")
                 theirs.append((float(told.read()), memory))
         written = os.path.getsize(page)
+        others = list(beside(folder, path, options.rows, options.seed)) if options.beside else []
 
     print(f"{options.rows} rows, {megabytes:.1f} MB read, {written / 1e6:.1f} MB written, best of {options.runs}")
     for name, runs in (("col_tool eval", ours), ("python json.load", theirs)):
         seconds = min(run[0] for run in runs)
         print(f"{name:<18} {seconds:7.3f} s {megabytes / seconds:8.1f} MB/s {max(run[1] for run in runs):8.0f} MB at most")
     print(f"ratio of seconds   {min(run[0] for run in ours) / min(run[0] for run in theirs):7.2f}")
+    for line in others:
+        print(line)
 
 
 if __name__ == "__main__":

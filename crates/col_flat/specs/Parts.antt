@@ -74,8 +74,7 @@ column_of a = record { data_type = a.data_type; cells = map slot_cell (slots_of 
 abbrev pub null_count_of : List Cell → ℕ
 null_count_of [] = 0
 null_count_of (null ∷ cells) = 1 + null_count_of cells
-null_count_of (whole n ∷ cells) = null_count_of cells
-null_count_of (parts ns ∷ cells) = null_count_of cells
+null_count_of (_ ∷ cells) = null_count_of cells
 
 -- so many slots of an array from a row on
 abbrev pub cut_parts : PrimitiveParts → ℕ → ℕ → PrimitiveParts

@@ -37,3 +37,8 @@ returns-else-is_valid-clause-slot g c =
     let within : c.args.i < length values = rw length-map (omega arith) in
     let none = rw (← c.self.view_is) at c.if-is_valid.ensures.1 in
     rw (← c.self.view_is) (slot_at_null values (unwrap_or c.self.inside.validity []) c.args.i within none)
+
+pub returns-else-is_valid-clause-value : goal.returns-else-is_valid-clause-value
+returns-else-is_valid-clause-value g c =
+    slice_get-map slot_cell (slots_of c.args.self.now) c.args.i
+    ∙ ap (option_map slot_cell) (returns-else-is_valid-clause-slot g c)
