@@ -22,7 +22,7 @@ mod u32;
 mod u64;
 mod u8;
 
-use crate::datatypes::{DataType, IntegerType, PrimitiveType};
+use crate::datatypes::{DataType, IntegerType, PhysicalType, PrimitiveType};
 use std::hash::Hash;
 
 /// A value as arrays store it.
@@ -44,7 +44,10 @@ pub trait NativeType: Copy + Eq + Hash {
 
     /// Whether columns of the type are stored as values of this native type.
     fn is_of(t: &DataType) -> bool
-        ensures { IsTrue result ↔ IsStoredAs (kind_of t.now) PRIMITIVE };
+        ensures { IsTrue result ↔ IsStoredAs (kind_of t.now) PRIMITIVE }
+    {
+        t.to_physical_type() == PhysicalType::Primitive(Self::PRIMITIVE)
+    }
 
     // The name tells the fields.
     ghost fields_law: { field_types ≡ fields_of PRIMITIVE };
@@ -204,11 +207,17 @@ pub trait Offset: NativeArithmetics {
 
     /// The number as a place; `None` where it is negative.
     fn to_usize(self) -> Option<usize>
-        ensures { option_map pos result ≡ checked_number (unsigned w64) (Self.value self) };
+        ensures { option_map pos result ≡ checked_number (unsigned w64) (Self.value self) }
+    {
+        usize::try_from(self.to_i128()).ok()
+    }
 
     /// The value that stands for the place; `None` where the place does not fit.
     fn from_usize(n: usize) -> Option<Self>
-        ensures { option_map Self.value result ≡ checked_number Self.whole_type (pos n) };
+        ensures { option_map Self.value result ≡ checked_number Self.whole_type (pos n) }
+    {
+        Self::from_i128(n as i128)
+    }
 
     // The larger type has 64 bits.
     ghost is_large_law: { IsTrue IS_LARGE ↔ (Self.whole_type ≡ signed w64) };
@@ -223,11 +232,17 @@ pub trait DictionaryKey: NativeArithmetics {
 
     /// The number as a place; `None` where it is negative.
     fn to_place(self) -> Option<usize>
-        ensures { option_map pos result ≡ checked_number (unsigned w64) (Self.value self) };
+        ensures { option_map pos result ≡ checked_number (unsigned w64) (Self.value self) }
+    {
+        usize::try_from(self.to_i128()).ok()
+    }
 
     /// The value that stands for the place; `None` where the place does not fit.
     fn from_place(n: usize) -> Option<Self>
-        ensures { option_map Self.value result ≡ checked_number Self.whole_type (pos n) };
+        ensures { option_map Self.value result ≡ checked_number Self.whole_type (pos n) }
+    {
+        Self::from_i128(n as i128)
+    }
 
     // The name tells the numbers.
     ghost key_type_law: { Self.whole_type ≡ whole_type_of_key KEY_TYPE };

@@ -5,7 +5,7 @@ ghost use Rattle.std.proofs.Common.{rules};
 ghost use Rattle.col_model.specs.Whole.{signed};
 ghost use Rattle.col_types.specs.declared.datatypes.physical_type.PrimitiveType.TheVariants.{DaysMs};
 
-use crate::datatypes::{DataType, PhysicalType, PrimitiveType};
+use crate::datatypes::PrimitiveType;
 use crate::native::{NativeNegate, NativeType};
 use crate::types::days_ms;
 
@@ -20,10 +20,6 @@ impl NativeType for days_ms {
 
     fn zero() -> days_ms {
         days_ms::new(0, 0)
-    }
-
-    fn is_of(t: &DataType) -> bool {
-        t.to_physical_type() == PhysicalType::Primitive(PrimitiveType::DaysMs)
     }
 
     ghost fields_law = { refl };

@@ -5,7 +5,7 @@ ghost use Rattle.std.proofs.Common.{rules};
 ghost use Rattle.col_model.specs.Whole.{signed};
 ghost use Rattle.col_types.specs.declared.datatypes.physical_type.PrimitiveType.TheVariants.{Int128};
 
-use crate::datatypes::{DataType, PhysicalType, PrimitiveType};
+use crate::datatypes::PrimitiveType;
 use crate::native::{NativeNegate, NativeType, NativeWhole};
 
 impl NativeType for i128 {
@@ -19,10 +19,6 @@ impl NativeType for i128 {
 
     fn zero() -> i128 {
         0
-    }
-
-    fn is_of(t: &DataType) -> bool {
-        t.to_physical_type() == PhysicalType::Primitive(PrimitiveType::Int128)
     }
 
     ghost fields_law = { refl };

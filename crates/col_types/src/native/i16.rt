@@ -6,7 +6,7 @@ ghost use Rattle.col_model.specs.Whole.{signed};
 ghost use Rattle.col_types.specs.declared.datatypes.IntegerType.TheVariants as key;
 ghost use Rattle.col_types.specs.declared.datatypes.physical_type.PrimitiveType.TheVariants.{Int16};
 
-use crate::datatypes::{DataType, IntegerType, PhysicalType, PrimitiveType};
+use crate::datatypes::{IntegerType, PrimitiveType};
 use crate::native::{DictionaryKey, NativeArithmetics, NativeNegate, NativeType, NativeWhole};
 
 impl NativeType for i16 {
@@ -20,10 +20,6 @@ impl NativeType for i16 {
 
     fn zero() -> i16 {
         0
-    }
-
-    fn is_of(t: &DataType) -> bool {
-        t.to_physical_type() == PhysicalType::Primitive(PrimitiveType::Int16)
     }
 
     ghost fields_law = { refl };
@@ -149,14 +145,6 @@ impl DictionaryKey for i16 {
     const KEY_TYPE: IntegerType = IntegerType::Int16;
 
     ghost KEY_TYPE = { key.Int16 };
-
-    fn to_place(self) -> Option<usize> {
-        usize::try_from(self).ok()
-    }
-
-    fn from_place(n: usize) -> Option<i16> {
-        i16::try_from(n).ok()
-    }
 
     ghost key_type_law = { refl };
 }

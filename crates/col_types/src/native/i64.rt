@@ -6,7 +6,7 @@ ghost use Rattle.col_model.specs.Whole.{signed};
 ghost use Rattle.col_types.specs.declared.datatypes.IntegerType.TheVariants as key;
 ghost use Rattle.col_types.specs.declared.datatypes.physical_type.PrimitiveType.TheVariants.{Int64};
 
-use crate::datatypes::{DataType, IntegerType, PhysicalType, PrimitiveType};
+use crate::datatypes::{IntegerType, PrimitiveType};
 use crate::native::{
     DictionaryKey, NativeArithmetics, NativeNegate, NativeType, NativeWhole, Offset,
 };
@@ -22,10 +22,6 @@ impl NativeType for i64 {
 
     fn zero() -> i64 {
         0
-    }
-
-    fn is_of(t: &DataType) -> bool {
-        t.to_physical_type() == PhysicalType::Primitive(PrimitiveType::Int64)
     }
 
     ghost fields_law = { refl };
@@ -152,14 +148,6 @@ impl Offset for i64 {
 
     ghost IS_LARGE = { true };
 
-    fn to_usize(self) -> Option<usize> {
-        usize::try_from(self).ok()
-    }
-
-    fn from_usize(n: usize) -> Option<i64> {
-        i64::try_from(n).ok()
-    }
-
     ghost is_large_law = { Prim.search rules };
 }
 
@@ -167,14 +155,6 @@ impl DictionaryKey for i64 {
     const KEY_TYPE: IntegerType = IntegerType::Int64;
 
     ghost KEY_TYPE = { key.Int64 };
-
-    fn to_place(self) -> Option<usize> {
-        usize::try_from(self).ok()
-    }
-
-    fn from_place(n: usize) -> Option<i64> {
-        i64::try_from(n).ok()
-    }
 
     ghost key_type_law = { refl };
 }

@@ -6,7 +6,7 @@ ghost use Rattle.std.proofs.lemmas.Bool.Decides.{Decides-and, Decides-int_eq};
 ghost use Rattle.col_model.specs.Whole.{signed};
 ghost use Rattle.col_types.specs.declared.datatypes.physical_type.PrimitiveType.TheVariants.{MonthDayNano};
 
-use crate::datatypes::{DataType, PhysicalType, PrimitiveType};
+use crate::datatypes::PrimitiveType;
 use crate::native::{NativeNegate, NativeType};
 use crate::types::months_days_ns;
 
@@ -21,10 +21,6 @@ impl NativeType for months_days_ns {
 
     fn zero() -> months_days_ns {
         months_days_ns::new(0, 0, 0)
-    }
-
-    fn is_of(t: &DataType) -> bool {
-        t.to_physical_type() == PhysicalType::Primitive(PrimitiveType::MonthDayNano)
     }
 
     ghost fields_law = { refl };

@@ -6,7 +6,7 @@ ghost use Rattle.col_model.specs.Whole.{unsigned};
 ghost use Rattle.col_types.specs.declared.datatypes.IntegerType.TheVariants as key;
 ghost use Rattle.col_types.specs.declared.datatypes.physical_type.PrimitiveType.TheVariants.{UInt8};
 
-use crate::datatypes::{DataType, IntegerType, PhysicalType, PrimitiveType};
+use crate::datatypes::{IntegerType, PrimitiveType};
 use crate::native::{DictionaryKey, NativeArithmetics, NativeNegate, NativeType, NativeWhole};
 
 impl NativeType for u8 {
@@ -20,10 +20,6 @@ impl NativeType for u8 {
 
     fn zero() -> u8 {
         0
-    }
-
-    fn is_of(t: &DataType) -> bool {
-        t.to_physical_type() == PhysicalType::Primitive(PrimitiveType::UInt8)
     }
 
     ghost fields_law = { refl };
@@ -148,14 +144,6 @@ impl DictionaryKey for u8 {
     const KEY_TYPE: IntegerType = IntegerType::UInt8;
 
     ghost KEY_TYPE = { key.UInt8 };
-
-    fn to_place(self) -> Option<usize> {
-        usize::try_from(self).ok()
-    }
-
-    fn from_place(n: usize) -> Option<u8> {
-        u8::try_from(n).ok()
-    }
 
     ghost key_type_law = { refl };
 }
