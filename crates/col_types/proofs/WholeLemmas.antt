@@ -1,13 +1,16 @@
 -- What std's answers on machine numbers are as whole numbers, over the width.
-use Rattle.std.proofs.Common.{◌≡◌, ℕ, true, leb, ◌-◌, ◌%◌, ◌^◌, ◌<◌, ℤ, pos, negsuc, ◌*ℤ◌, neg_ℤ, FitsSigned, arith, refl, sym, ap, ◌∙◌, mod-lt, to_z, of_z}
+use Rattle.std.proofs.Common.{◌≡◌, ℕ, true, leb, ◌-◌, ◌%◌, ◌^◌, ◌<◌, ℤ, pos, negsuc, ◌*ℤ◌, neg_ℤ}
+use Rattle.std.proofs.Common.{FitsSigned, arith, refl, sym, ap, ◌∙◌, mod-lt, to_z, of_z}
 use Rattle.std.specs.Prelude.{bit_or, bit_xor}
-use Rattle.std.specs.Int.{Width, w8, w16, w32, w64, w128, int_wrap, int_wrapping_mul, int_wrapping_neg}
+use Rattle.std.specs.Int.{Width, w8, w16, w32, w64, w128, int_wrap, int_wrapping_mul}
+use Rattle.std.specs.Int.{int_wrapping_neg}
 use Rattle.std.proofs.lemmas.Bool.Decides.{nat_tests}
 use Rattle.std.proofs.lemmas.Int.{ints, wrapping_mul_is, wrapping_neg_is}
 use Rattle.std.proofs.lemmas.Nat.{or_lt, xor_lt, pow_pos}
 use Rattle.std.proofs.Math.Nat.{mod-eq_of_lt}
 use Rattle.col_model.specs.Bitwise.{bits_of, bitwise_or, bitwise_xor, number_of_bits}
-use Rattle.col_model.specs.Whole.{WholeType, signed, unsigned, bit_count, lowered_into, wrapped_number}
+use Rattle.col_model.specs.Whole.{WholeType, signed, unsigned, bit_count, lowered_into}
+use Rattle.col_model.specs.Whole.{wrapped_number}
 use mir.Val.{bits}
 
 -- the number of a type with a sign that has the bits m

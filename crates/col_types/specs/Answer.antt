@@ -1,8 +1,10 @@
 -- What a call that may want memory answers.
 use Rattle.std.specs.Prelude.{◌≡◌, ◌↔◌, Result, Ok, Err, ⊤}
-use Rattle.col_model.specs.Cell.{Cause, overflow, divide_by_zero, out_of_range, out_of_spec, row_length}
+use Rattle.col_model.specs.Cell.{Cause, overflow, divide_by_zero, out_of_range, out_of_spec}
+use Rattle.col_model.specs.Cell.{row_length}
 use Rattle.col_types.specs.declared.error.Error.{Error}
-use Rattle.col_types.specs.declared.error.Error.TheVariants.{Memory, InvalidArgumentError, Overflow, DivideByZero, OutOfRange, OutOfSpec}
+use Rattle.col_types.specs.declared.error.Error.TheVariants.{Memory, InvalidArgumentError, Overflow}
+use Rattle.col_types.specs.declared.error.Error.TheVariants.{DivideByZero, OutOfRange, OutOfSpec}
 use Rattle.col_types.specs.declared.error.Reason.TheVariants.{RowLength}
 
 -- the fact, for each answer but want of memory: that one is free

@@ -1,8 +1,10 @@
 -- Which cells a type has.
-use Rattle.std.specs.Prelude.{ℕ, ◌+◌, ℤ, Bool, true, false, ◌&&◌, ◌==◌, nat_lt, IsTrue, List, [], ◌∷◌, length, Option, Some, None}
+use Rattle.std.specs.Prelude.{ℕ, ◌+◌, ℤ, Bool, true, false, ◌&&◌, ◌==◌, nat_lt, IsTrue, List, []}
+use Rattle.std.specs.Prelude.{◌∷◌, length, Option, Some, None}
 use Rattle.std.specs.List.{list_all}
 use Rattle.std.specs.Str.{is_utf8}
-use Rattle.col_model.specs.Cell.{Cell, Elements, null, whole, truth, parts, octets, list, no_elements, element}
+use Rattle.col_model.specs.Cell.{Cell, Elements, null, whole, truth, parts, octets, list}
+use Rattle.col_model.specs.Cell.{no_elements, element}
 use Rattle.col_model.specs.Whole.{WholeType, is_fitting}
 use Rattle.col_types.specs.declared.datatypes.physical_type.PhysicalType.{PhysicalType}
 use Rattle.col_types.specs.declared.datatypes.physical_type.PhysicalType.TheVariants as physical

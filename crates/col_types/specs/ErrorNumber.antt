@@ -1,7 +1,9 @@
 -- The numbers of the errors.
 use Rattle.std.specs.Prelude.{ℕ}
 use Rattle.col_types.specs.declared.error.Error.{Error}
-use Rattle.col_types.specs.declared.error.Error.TheVariants.{Memory, NotYetImplemented, InvalidArgumentError, Overflow, DivideByZero, OutOfRange, OutOfSpec}
+use Rattle.col_types.specs.declared.error.Error.TheVariants.{Memory, NotYetImplemented}
+use Rattle.col_types.specs.declared.error.Error.TheVariants.{InvalidArgumentError, Overflow}
+use Rattle.col_types.specs.declared.error.Error.TheVariants.{DivideByZero, OutOfRange, OutOfSpec}
 
 -- the variants in their order, from 1
 abbrev pub error_number : Error → ℕ

@@ -8,4 +8,5 @@ pub mod Column
 pub mod DataKind
 pub mod DataType
 pub mod ErrorNumber
+pub mod Intervals
 pub mod NativeFields

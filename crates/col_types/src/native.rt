@@ -1,9 +1,13 @@
 //! The native types that arrays of numbers are made of.
-ghost use Rattle.std.specs.Prelude.{◌≡◌, ◌↔◌, ◌+ℤ◌, ◌-ℤ◌, ◌*ℤ◌, IsTrue, ℕ, ℤ, Bool, List, [], ◌∷◌, length, map, option_map, neg_ℤ, pos};
+ghost use Rattle.std.specs.Prelude.{◌≡◌, ◌↔◌, ◌+ℤ◌, ◌-ℤ◌, ◌*ℤ◌, IsTrue, ℕ, ℤ, Bool, List, [], ◌∷◌};
+ghost use Rattle.std.specs.Prelude.{length, map, option_map, neg_ℤ, pos};
 ghost use Rattle.std.specs.Int.{w64};
 ghost use Rattle.col_model.specs.Bitwise.{bitwise_and, bitwise_not, bitwise_or, bitwise_xor};
-ghost use Rattle.col_model.specs.Whole.{WholeType, bit_count, checked_number, checked_numbers, greatest_number, is_fitting, least_number, nearest_number, signed, unsigned, wrapped_number, wrapped_numbers};
-ghost use Rattle.col_model.specs.WholeStep.{checked_result, addition, subtraction, multiplication, division, remainder};
+ghost use Rattle.col_model.specs.Whole.{WholeType, bit_count, checked_number, checked_numbers};
+ghost use Rattle.col_model.specs.Whole.{greatest_number, is_fitting, least_number, nearest_number};
+ghost use Rattle.col_model.specs.Whole.{signed, unsigned, wrapped_number, wrapped_numbers};
+ghost use Rattle.col_model.specs.WholeStep.{checked_result, addition, subtraction, multiplication};
+ghost use Rattle.col_model.specs.WholeStep.{division, remainder};
 ghost use Rattle.col_types.specs.declared.datatypes.IntegerType.{IntegerType};
 ghost use Rattle.col_types.specs.declared.datatypes.physical_type.PrimitiveType.{PrimitiveType};
 ghost use Rattle.col_types.specs.DataKind.{kind_of};

@@ -1,13 +1,24 @@
 //! The native types of intervals: several numbers in one value.
 ghost use Rattle.std.specs.Prelude.{◌≡◌};
+ghost use Rattle.col_types.specs.Intervals.{DayTime, MonthDayTime};
+
+use std::marker::Model;
 
 /// A span of days and milliseconds, each with a sign of its own: a slot of `Interval(DayTime)`.
 ///
 /// Source: the Arrow columnar format, `IntervalUnit` in "Schema.fbs".
 #[derive(Clone, Copy, Debug, PartialEq, Eq, Hash)]
 pub struct days_ms {
-    pub(crate) days: i32,
-    pub(crate) milliseconds: i32,
+    days: i32,
+    milliseconds: i32,
+}
+
+impl Model for days_ms {
+    ghost Value = { DayTime };
+
+    ghost view = { λ x. record { days = x.days; milliseconds = x.milliseconds } };
+
+    ghost inverse = { λ x. record { days = x.days; milliseconds = x.milliseconds } };
 }
 
 impl days_ms {
@@ -39,9 +50,17 @@ impl days_ms {
 /// Source: the Arrow columnar format, `IntervalUnit` in "Schema.fbs".
 #[derive(Clone, Copy, Debug, PartialEq, Eq, Hash)]
 pub struct months_days_ns {
-    pub(crate) months: i32,
-    pub(crate) days: i32,
-    pub(crate) ns: i64,
+    months: i32,
+    days: i32,
+    ns: i64,
+}
+
+impl Model for months_days_ns {
+    ghost Value = { MonthDayTime };
+
+    ghost view = { λ x. record { months = x.months; days = x.days; ns = x.ns } };
+
+    ghost inverse = { λ x. record { months = x.months; days = x.days; ns = x.ns } };
 }
 
 impl months_days_ns {

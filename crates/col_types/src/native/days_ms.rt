@@ -3,7 +3,7 @@ ghost use Rattle.std.specs.Prelude.{[], ◌∷◌, refl};
 ghost use Rattle.std.specs.Int.{w32};
 ghost use Rattle.std.proofs.Common.{rules};
 ghost use Rattle.col_model.specs.Whole.{signed};
-ghost use Rattle.col_types.specs.declared.datatypes.physical_type.PrimitiveType.TheVariants.{DaysMs};
+ghost use Rattle.col_types.specs.declared.datatypes.physical_type.PrimitiveType.TheVariants as name;
 
 use crate::datatypes::PrimitiveType;
 use crate::native::{NativeNegate, NativeType};
@@ -16,7 +16,7 @@ impl NativeType for days_ms {
 
     const PRIMITIVE: PrimitiveType = PrimitiveType::DaysMs;
 
-    ghost PRIMITIVE = { DaysMs };
+    ghost PRIMITIVE = { name.DaysMs };
 
     fn zero() -> days_ms {
         days_ms::new(0, 0)
@@ -33,14 +33,14 @@ impl NativeType for days_ms {
 
 impl NativeNegate for days_ms {
     fn neg_checked(self) -> Option<days_ms> {
-        let days = self.days.checked_neg()?;
-        let milliseconds = self.milliseconds.checked_neg()?;
-        Some(days_ms { days, milliseconds })
+        let days = self.days().checked_neg()?;
+        let milliseconds = self.milliseconds().checked_neg()?;
+        Some(days_ms::new(days, milliseconds))
     }
 
     fn neg_wrapped(self) -> days_ms {
-        let days = self.days.neg_wrapped();
-        let milliseconds = self.milliseconds.neg_wrapped();
-        days_ms { days, milliseconds }
+        let days = self.days().neg_wrapped();
+        let milliseconds = self.milliseconds().neg_wrapped();
+        days_ms::new(days, milliseconds)
     }
 }

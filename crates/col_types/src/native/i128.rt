@@ -3,7 +3,7 @@ ghost use Rattle.std.specs.Prelude.{[], ◌∷◌, refl};
 ghost use Rattle.std.specs.Int.{w128};
 ghost use Rattle.std.proofs.Common.{rules};
 ghost use Rattle.col_model.specs.Whole.{signed};
-ghost use Rattle.col_types.specs.declared.datatypes.physical_type.PrimitiveType.TheVariants.{Int128};
+ghost use Rattle.col_types.specs.declared.datatypes.physical_type.PrimitiveType.TheVariants as name;
 
 use crate::datatypes::PrimitiveType;
 use crate::native::{NativeNegate, NativeType, NativeWhole};
@@ -15,7 +15,7 @@ impl NativeType for i128 {
 
     const PRIMITIVE: PrimitiveType = PrimitiveType::Int128;
 
-    ghost PRIMITIVE = { Int128 };
+    ghost PRIMITIVE = { name.Int128 };
 
     fn zero() -> i128 {
         0

@@ -4,7 +4,7 @@ ghost use Rattle.std.specs.Int.{w16};
 ghost use Rattle.std.proofs.Common.{rules};
 ghost use Rattle.col_model.specs.Whole.{signed};
 ghost use Rattle.col_types.specs.declared.datatypes.IntegerType.TheVariants as key;
-ghost use Rattle.col_types.specs.declared.datatypes.physical_type.PrimitiveType.TheVariants.{Int16};
+ghost use Rattle.col_types.specs.declared.datatypes.physical_type.PrimitiveType.TheVariants as name;
 
 use crate::datatypes::{IntegerType, PrimitiveType};
 use crate::native::{DictionaryKey, NativeArithmetics, NativeNegate, NativeType, NativeWhole};
@@ -16,7 +16,7 @@ impl NativeType for i16 {
 
     const PRIMITIVE: PrimitiveType = PrimitiveType::Int16;
 
-    ghost PRIMITIVE = { Int16 };
+    ghost PRIMITIVE = { name.Int16 };
 
     fn zero() -> i16 {
         0

@@ -4,7 +4,7 @@ ghost use Rattle.std.specs.Int.{w32};
 ghost use Rattle.std.proofs.Common.{rules};
 ghost use Rattle.col_model.specs.Whole.{signed};
 ghost use Rattle.col_types.specs.declared.datatypes.IntegerType.TheVariants as key;
-ghost use Rattle.col_types.specs.declared.datatypes.physical_type.PrimitiveType.TheVariants.{Int32};
+ghost use Rattle.col_types.specs.declared.datatypes.physical_type.PrimitiveType.TheVariants as name;
 
 use crate::datatypes::{IntegerType, PrimitiveType};
 use crate::native::{
@@ -18,7 +18,7 @@ impl NativeType for i32 {
 
     const PRIMITIVE: PrimitiveType = PrimitiveType::Int32;
 
-    ghost PRIMITIVE = { Int32 };
+    ghost PRIMITIVE = { name.Int32 };
 
     fn zero() -> i32 {
         0

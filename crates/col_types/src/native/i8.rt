@@ -4,7 +4,7 @@ ghost use Rattle.std.specs.Int.{w8};
 ghost use Rattle.std.proofs.Common.{rules};
 ghost use Rattle.col_model.specs.Whole.{signed};
 ghost use Rattle.col_types.specs.declared.datatypes.IntegerType.TheVariants as key;
-ghost use Rattle.col_types.specs.declared.datatypes.physical_type.PrimitiveType.TheVariants.{Int8};
+ghost use Rattle.col_types.specs.declared.datatypes.physical_type.PrimitiveType.TheVariants as name;
 
 use crate::datatypes::{IntegerType, PrimitiveType};
 use crate::native::{DictionaryKey, NativeArithmetics, NativeNegate, NativeType, NativeWhole};
@@ -16,7 +16,7 @@ impl NativeType for i8 {
 
     const PRIMITIVE: PrimitiveType = PrimitiveType::Int8;
 
-    ghost PRIMITIVE = { Int8 };
+    ghost PRIMITIVE = { name.Int8 };
 
     fn zero() -> i8 {
         0

@@ -4,7 +4,7 @@ ghost use Rattle.std.specs.Int.{w32, w64};
 ghost use Rattle.std.proofs.Common.{rules};
 ghost use Rattle.std.proofs.lemmas.Bool.Decides.{Decides-and, Decides-int_eq};
 ghost use Rattle.col_model.specs.Whole.{signed};
-ghost use Rattle.col_types.specs.declared.datatypes.physical_type.PrimitiveType.TheVariants.{MonthDayNano};
+ghost use Rattle.col_types.specs.declared.datatypes.physical_type.PrimitiveType.TheVariants as name;
 
 use crate::datatypes::PrimitiveType;
 use crate::native::{NativeNegate, NativeType};
@@ -17,7 +17,7 @@ impl NativeType for months_days_ns {
 
     const PRIMITIVE: PrimitiveType = PrimitiveType::MonthDayNano;
 
-    ghost PRIMITIVE = { MonthDayNano };
+    ghost PRIMITIVE = { name.MonthDayNano };
 
     fn zero() -> months_days_ns {
         months_days_ns::new(0, 0, 0)
@@ -37,16 +37,16 @@ impl NativeType for months_days_ns {
 
 impl NativeNegate for months_days_ns {
     fn neg_checked(self) -> Option<months_days_ns> {
-        let months = self.months.checked_neg()?;
-        let days = self.days.checked_neg()?;
-        let ns = self.ns.checked_neg()?;
-        Some(months_days_ns { months, days, ns })
+        let months = self.months().checked_neg()?;
+        let days = self.days().checked_neg()?;
+        let ns = self.ns().checked_neg()?;
+        Some(months_days_ns::new(months, days, ns))
     }
 
     fn neg_wrapped(self) -> months_days_ns {
-        let months = self.months.neg_wrapped();
-        let days = self.days.neg_wrapped();
-        let ns = self.ns.neg_wrapped();
-        months_days_ns { months, days, ns }
+        let months = self.months().neg_wrapped();
+        let days = self.days().neg_wrapped();
+        let ns = self.ns().neg_wrapped();
+        months_days_ns::new(months, days, ns)
     }
 }

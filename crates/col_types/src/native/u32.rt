@@ -4,7 +4,7 @@ ghost use Rattle.std.specs.Int.{w32};
 ghost use Rattle.std.proofs.Common.{rules};
 ghost use Rattle.col_model.specs.Whole.{unsigned};
 ghost use Rattle.col_types.specs.declared.datatypes.IntegerType.TheVariants as key;
-ghost use Rattle.col_types.specs.declared.datatypes.physical_type.PrimitiveType.TheVariants.{UInt32};
+ghost use Rattle.col_types.specs.declared.datatypes.physical_type.PrimitiveType.TheVariants as name;
 
 use crate::datatypes::{IntegerType, PrimitiveType};
 use crate::native::{DictionaryKey, NativeArithmetics, NativeNegate, NativeType, NativeWhole};
@@ -16,7 +16,7 @@ impl NativeType for u32 {
 
     const PRIMITIVE: PrimitiveType = PrimitiveType::UInt32;
 
-    ghost PRIMITIVE = { UInt32 };
+    ghost PRIMITIVE = { name.UInt32 };
 
     fn zero() -> u32 {
         0

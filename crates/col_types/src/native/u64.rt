@@ -4,7 +4,7 @@ ghost use Rattle.std.specs.Int.{w64};
 ghost use Rattle.std.proofs.Common.{rules};
 ghost use Rattle.col_model.specs.Whole.{unsigned};
 ghost use Rattle.col_types.specs.declared.datatypes.IntegerType.TheVariants as key;
-ghost use Rattle.col_types.specs.declared.datatypes.physical_type.PrimitiveType.TheVariants.{UInt64};
+ghost use Rattle.col_types.specs.declared.datatypes.physical_type.PrimitiveType.TheVariants as name;
 
 use crate::datatypes::{IntegerType, PrimitiveType};
 use crate::native::{DictionaryKey, NativeArithmetics, NativeNegate, NativeType, NativeWhole};
@@ -16,7 +16,7 @@ impl NativeType for u64 {
 
     const PRIMITIVE: PrimitiveType = PrimitiveType::UInt64;
 
-    ghost PRIMITIVE = { UInt64 };
+    ghost PRIMITIVE = { name.UInt64 };
 
     fn zero() -> u64 {
         0

@@ -4,7 +4,7 @@ ghost use Rattle.std.specs.Int.{w8};
 ghost use Rattle.std.proofs.Common.{rules};
 ghost use Rattle.col_model.specs.Whole.{unsigned};
 ghost use Rattle.col_types.specs.declared.datatypes.IntegerType.TheVariants as key;
-ghost use Rattle.col_types.specs.declared.datatypes.physical_type.PrimitiveType.TheVariants.{UInt8};
+ghost use Rattle.col_types.specs.declared.datatypes.physical_type.PrimitiveType.TheVariants as name;
 
 use crate::datatypes::{IntegerType, PrimitiveType};
 use crate::native::{DictionaryKey, NativeArithmetics, NativeNegate, NativeType, NativeWhole};
@@ -16,7 +16,7 @@ impl NativeType for u8 {
 
     const PRIMITIVE: PrimitiveType = PrimitiveType::UInt8;
 
-    ghost PRIMITIVE = { UInt8 };
+    ghost PRIMITIVE = { name.UInt8 };
 
     fn zero() -> u8 {
         0
