@@ -1,5 +1,7 @@
 -- Documents: the table and the trees that a JSON text holds.
-use Rattle.std.specs.Prelude.{ℕ, ◌^◌, ℤ, Bool, true, ◌&&◌, ◌||◌, ◌==◌, not, nat_lt, nat_le, if◌then◌else◌, List, [], ◌∷◌, length, slice_index, codes, is_some, Option, Some, None, option_map}
+use Rattle.std.specs.Prelude.{ℕ, ◌^◌, ℤ, Bool, true, ◌&&◌, ◌||◌, ◌==◌, not, nat_lt, nat_le}
+use Rattle.std.specs.Prelude.{if◌then◌else◌, List, [], ◌∷◌, length, slice_index, codes, is_some}
+use Rattle.std.specs.Prelude.{Option, Some, None, option_map}
 use Rattle.std.specs.Str.{all_ascii_digits, bytes_eq, is_utf8}
 use Rattle.std.specs.Str.Parse.{digits_value, signed_digits_value, without_leading_sign}
 use Rattle.std.specs.Int.{w64}
@@ -124,7 +126,8 @@ abbrev pub with_step : Op → List Tree → Option (List Tree)
 with_step op [] = None
 with_step op (right ∷ []) = None
 with_step op (right ∷ left ∷ below) =
-    if nat_le (level_count (step op left right)) max_levels then Some (step op left right ∷ below) else None
+    if nat_le (level_count (step op left right)) max_levels then Some
+    (step op left right ∷ below) else None
 
 -- the trees after one more item, the last one first
 abbrev pub with_piece : Piece → List Tree → Option (List Tree)
@@ -157,14 +160,17 @@ pub record DocumentView : Type 0 where
   pub table : List Column
   pub trees : List Tree
 
--- a document: an object with a list of columns of one length, fewer than 2 ^ 32, and a list of trees
+-- a document: an object with a list of columns of one length, fewer than 2 ^ 32, and a list of
+-- trees
 abbrev pub document_read : Data → Option DocumentView
 document_read d = do
   column_items ← get (codes "columns") d >>= as_array
   tree_items ← get (codes "trees") d >>= as_array
   columns ← each column_read column_items
   trees ← each tree_read tree_items
-  if nat_lt (item_count column_items) (2 ^ 32) && is_table columns then Some (record { table = columns; trees = trees }) else None
+  if nat_lt (item_count column_items) (2 ^ 32) && is_table columns
+    then Some (record { table = columns; trees = trees })
+    else None
 
 -- the document of some bytes: they are UTF-8, and the JSON text that they are holds one
 abbrev pub document_of : List ℕ → Option DocumentView

@@ -4,7 +4,8 @@ use Rattle.std.specs.Fmt.{decimal}
 use Rattle.serde_json.specs.Data.{Items, array}
 use Rattle.col_eval.specs.Tree.{Tree, column, literal, step, level_count}
 use Rattle.col_eval.specs.Typing.{max_levels}
-use Rattle.col_document.specs.Document.{Piece, leaf, named, only_tree, piece_read, position_named, tree_read, with_pieces}
+use Rattle.col_document.specs.Document.{Piece, leaf, named, only_tree, piece_read, position_named}
+use Rattle.col_document.specs.Document.{tree_read, with_pieces}
 use Rattle.col_document.specs.Json.{◌>>=◌, each}
 
 -- the items that a tree is written as: those of its left operand, of its right one, then the step

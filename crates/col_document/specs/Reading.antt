@@ -1,5 +1,6 @@
 -- What a reading answers but for want of memory, and what the code's pieces stand for.
-use Rattle.std.specs.Prelude.{◌≡◌, nat_le, if◌then◌else◌, ◌&&◌, ◌^◌, nat_lt, length, List, map, reverse, Option, Some, None, Result, Ok, Err, ⊤}
+use Rattle.std.specs.Prelude.{◌≡◌, nat_le, if◌then◌else◌, ◌&&◌, ◌^◌, nat_lt, length, List, map}
+use Rattle.std.specs.Prelude.{reverse, Option, Some, None, Result, Ok, Err, ⊤}
 use Rattle.col_types.specs.Column.{Column, is_table}
 use Rattle.col_array.specs.Any.{scalar_cell, scalar_type}
 use Rattle.col_eval.specs.Tree.{Tree, column, literal, step, level_count, tree_of}

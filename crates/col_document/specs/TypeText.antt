@@ -2,9 +2,11 @@
 use Rattle.std.specs.Prelude.{ℕ, List, [], ◌++◌, codes, Option, Some, None}
 use Rattle.std.specs.Fmt.{decimal}
 use Rattle.col_types.specs.declared.datatypes.TimeUnit.{TimeUnit}
-use Rattle.col_types.specs.declared.datatypes.TimeUnit.TheVariants.{Second, Millisecond, Microsecond, Nanosecond}
+use Rattle.col_types.specs.declared.datatypes.TimeUnit.TheVariants.{Second, Millisecond}
+use Rattle.col_types.specs.declared.datatypes.TimeUnit.TheVariants.{Microsecond, Nanosecond}
 use Rattle.col_types.specs.declared.datatypes.IntervalUnit.{IntervalUnit}
-use Rattle.col_types.specs.declared.datatypes.IntervalUnit.TheVariants.{YearMonth, DayTime, MonthDayNano}
+use Rattle.col_types.specs.declared.datatypes.IntervalUnit.TheVariants.{YearMonth, DayTime}
+use Rattle.col_types.specs.declared.datatypes.IntervalUnit.TheVariants.{MonthDayNano}
 use Rattle.col_types.specs.DataKind.{DataKind}
 use Rattle.col_types.specs.DataKind as kind
 

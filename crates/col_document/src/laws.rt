@@ -1,5 +1,6 @@
 //! What holds of the definitions, as facts of their own.
-ghost use Rattle.col_document.specs.Laws.{IsReadFromItsSpelling, IsSpelledInOneWay, NamesItsPosition};
+ghost use Rattle.col_document.specs.Laws.{IsReadFromItsSpelling, IsSpelledInOneWay};
+ghost use Rattle.col_document.specs.Laws.{NamesItsPosition};
 
 /// A list of items leaves a tree exactly where it is the tree's spelling in postfix order, and the
 /// tree has at most 256 levels.

@@ -1,6 +1,7 @@
 //! What the texts of a document name.
 ghost use Rattle.std.specs.Prelude.{◌≡◌, ◌&&◌, ◌||◌, ◌==◌, ◌^◌, Some, None};
-ghost use Rattle.std.specs.Prelude.{IfSome, if◌then◌else◌, length, nat_lt, not, option_map, slice_index};
+ghost use Rattle.std.specs.Prelude.{IfSome, if◌then◌else◌, length, nat_lt, not, option_map};
+ghost use Rattle.std.specs.Prelude.{slice_index};
 ghost use Rattle.std.specs.Str.Parse.{digits_value};
 ghost use Rattle.std.specs.Int.{w64};
 ghost use Rattle.col_model.specs.Whole.{signed};

@@ -9,5 +9,6 @@ use Rattle.col_document.proofs.cells.read_columns.Given as goal
 
 abbrev pub invariant-loop-value : goal.invariant-loop-value
 invariant-loop-value l =
-    front (map any_column l.columns.items) (each column_read (items_view (into_iter_items l.value-iterator)))
+    front (map any_column l.columns.items)
+    (each column_read (items_view (into_iter_items l.value-iterator)))
     ≡ each column_read (items_view l.fn.values.items)

@@ -14,8 +14,18 @@ loop-value-preserved-in_ok-push-2 c =
     record {
       one_length = grind (arith, common_steps);
       done =
-          rw (c.in_ok-push-2.ensures.items, c.in_ok-push.ensures.items, to_z-of_z w64 c.unwrap_or.result fits, c.unwrap_or.ensures, c.is_some.ensures)
-          (stored-next (cell_read (kind_of c.args.data_type.now)) c.args.values.items _ _ c.in-Some.value c.loop-value.validity.items c.loop-value.numbers.items c.in-Some-read_slot.slot c.loop-value.invariant.one_length c.in-Some.ensures.steps.0 c.in-Some-read_slot.ensures c.loop-value.invariant.done);
+          rw (
+            c.in_ok-push-2.ensures.items,
+            c.in_ok-push.ensures.items,
+            to_z-of_z w64 c.unwrap_or.result fits,
+            c.unwrap_or.ensures,
+            c.is_some.ensures,
+          )
+          (stored-next (cell_read
+          (kind_of c.args.data_type.now)) c.args.values.items _ _ c.in-Some.value
+          c.loop-value.validity.items c.loop-value.numbers.items c.in-Some-read_slot.slot
+          c.loop-value.invariant.one_length c.in-Some.ensures.steps.0 c.in-Some-read_slot.ensures
+          c.loop-value.invariant.done);
     }
 
 pub loop-value-preserved : goal.loop-value-preserved
@@ -24,6 +34,16 @@ loop-value-preserved c =
     record {
       one_length = grind (arith, common_steps);
       done =
-          rw (c.in_ok-push-2.ensures.items, c.in_ok-push.ensures.items, to_z-of_z w64 c.unwrap_or.result fits, c.unwrap_or.ensures, c.is_some.ensures)
-          (stored-next (cell_read (kind_of c.args.data_type.now)) c.args.values.items _ _ c.in-Some.value c.loop-value.validity.items c.loop-value.numbers.items c.in-Some-read_slot.slot c.loop-value.invariant.one_length c.in-Some.ensures.steps.0 c.in-Some-read_slot.ensures c.loop-value.invariant.done);
+          rw (
+            c.in_ok-push-2.ensures.items,
+            c.in_ok-push.ensures.items,
+            to_z-of_z w64 c.unwrap_or.result fits,
+            c.unwrap_or.ensures,
+            c.is_some.ensures,
+          )
+          (stored-next (cell_read
+          (kind_of c.args.data_type.now)) c.args.values.items _ _ c.in-Some.value
+          c.loop-value.validity.items c.loop-value.numbers.items c.in-Some-read_slot.slot
+          c.loop-value.invariant.one_length c.in-Some.ensures.steps.0 c.in-Some-read_slot.ensures
+          c.loop-value.invariant.done);
     }

@@ -12,6 +12,7 @@ abbrev pub invariant-loop-value : goal.invariant-loop-value
 invariant-loop-value l = record {
   one_length : length l.validity.items ≡ length l.numbers.items;
   done :
-      front (stored_cells l.validity.items l.numbers.items) (each (cell_read (kind_of l.data_type)) (items_view (into_iter_items l.value-iterator)))
+      front (stored_cells l.validity.items l.numbers.items)
+      (each (cell_read (kind_of l.data_type)) (items_view (into_iter_items l.value-iterator)))
       ≡ each (cell_read (kind_of l.data_type)) (items_view l.fn.values.items);
 }

@@ -5,4 +5,5 @@ use Rattle.col_document.proofs.texts.read_position.Goals as goal
 
 pub returns-in-None : goal.returns-in-None
 returns-in-None c =
-    sym (position_named-other c.args.text.now (strip_prefix_char 99 c.args.text.now None c.in-None.ensures.cases (lit< tt)))
+    sym (position_named-other c.args.text.now
+    (strip_prefix_char 99 c.args.text.now None c.in-None.ensures.cases (lit< tt)))

@@ -8,5 +8,6 @@ use Rattle.col_document.proofs.trees.read_parts.Given as goal
 
 abbrev pub invariant-loop-item : goal.invariant-loop-item
 invariant-loop-item l =
-    option_and_then (λ pieces. with_pieces pieces (trees_of l.parts.items)) (each piece_read (items_view (drop l.item-index l.items)))
+    option_and_then (λ pieces. with_pieces pieces (trees_of l.parts.items))
+    (each piece_read (items_view (drop l.item-index l.items)))
     ≡ option_and_then (λ pieces. with_pieces pieces []) (each piece_read (items_view l.items))
