@@ -1,17 +1,20 @@
 -- Pages: a line for each tree of a document.
-use Rattle.std.specs.Prelude.{◌≡◌, ℕ, zero, suc, Bool, true, false, List, [], ◌++◌, map, codes, is_err, Result, Ok, Err}
+use Rattle.std.specs.Prelude.{◌≡◌, ℕ, zero, suc, Bool, true, false, List, [], ◌++◌, map, codes}
+use Rattle.std.specs.Prelude.{is_err, Result, Ok, Err}
 use Rattle.std.specs.Fmt.{signed_decimal}
 use Rattle.std.specs.List.{flat_map, join_with_byte, list_any}
 use Rattle.col_model.specs.Cell.{Cell, null, whole, truth, parts}
 use Rattle.col_types.specs.Column.{Column}
 use Rattle.col_types.specs.declared.error.Error.{Error}
-use Rattle.col_types.specs.declared.error.Error.TheVariants.{Memory, NotYetImplemented, InvalidArgumentError, Overflow, DivideByZero, OutOfRange, OutOfSpec}
+use Rattle.col_types.specs.declared.error.Error.TheVariants.{Memory, NotYetImplemented}
+use Rattle.col_types.specs.declared.error.Error.TheVariants.{InvalidArgumentError, Overflow}
+use Rattle.col_types.specs.declared.error.Error.TheVariants.{DivideByZero, OutOfRange, OutOfSpec}
 use Rattle.col_eval.specs.Meaning.{outcome_of}
 use Rattle.col_document.specs.Document.{DocumentView}
 use Rattle.col_document.specs.TypeText.{type_text}
 
--- the text of a cell: a number in decimal, a truth value by its name, an interval as the list of its
--- numbers; there is no array of other cells yet, and they have no text
+-- the text of a cell: a number in decimal, a truth value by its name, an interval as the list of
+-- its numbers; there is no array of other cells yet, and they have no text
 abbrev pub cell_text : Cell → List ℕ
 cell_text null = codes "null"
 cell_text (whole n) = signed_decimal n
@@ -53,6 +56,7 @@ abbrev pub has_error_line : DocumentView → Bool
 has_error_line d = list_any (λ tree. is_err (outcome_of tree d.table)) d.trees
 
 -- a line was added for an outcome, and its kind told
-pub record IsLine (outcome : Result Column Error) (old new : List ℕ) (is_error : Bool) : Type 0 where
+pub record IsLine (outcome : Result Column Error) (old new : List ℕ)
+    (is_error : Bool) : Type 0 where
   pub text : new ≡ old ++ line_text outcome
   pub kind : is_error ≡ is_err outcome

@@ -6,7 +6,8 @@ ghost use Rattle.col_flat.specs.Parts.{column_of, native_cell};
 ghost use Rattle.col_array.specs.Any.{any_column};
 ghost use Rattle.col_eval.specs.Meaning.{outcome_of};
 ghost use Rattle.col_eval.specs.Tree.{tree_of};
-ghost use Rattle.col_page.specs.Page.{cell_text, cells_text, error_name, has_error_line, line_text, page_text};
+ghost use Rattle.col_page.specs.Page.{cell_text, cells_text, error_name, has_error_line};
+ghost use Rattle.col_page.specs.Page.{line_text, page_text};
 ghost use Rattle.col_page.specs.Page.{IsLine, comma_before};
 ghost use Rattle.col_document.specs.TypeText.{type_text};
 ghost use Rattle.col_document.specs.View.{document_view};
@@ -69,7 +70,8 @@ pub fn page_of(alloc: Global, doc: &Document) -> Result<Page, Error>
 
 // Adds the line of a tree's outcome, and tells whether it is an error line.
 fn push_line(alloc: Global, text: &mut Vec<u8>, table: &Table, tree: &Expr) -> Result<bool, Error>
-    ensures line { IfOk result (IsLine (outcome_of (tree_of tree.now) table.now) text.old.items text.new.items) }
+    ensures line { IfOk result (IsLine (outcome_of (tree_of tree.now) table.now)
+        text.old.items text.new.items) }
     ensures refused { FailsByMemory result }
 {
     match evaluate(alloc, table, tree) {

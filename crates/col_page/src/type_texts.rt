@@ -3,7 +3,8 @@ ghost use Rattle.std.specs.Prelude.{◌≡◌, ◌++◌, IfOk, codes};
 ghost use Rattle.std.specs.Fmt.{decimal};
 ghost use Rattle.col_types.specs.Answer.{FailsByMemory};
 ghost use Rattle.col_types.specs.DataKind.{kind_of};
-ghost use Rattle.col_document.specs.TypeText.{plain_text, span_text, type_text, unit_text, zone_text};
+ghost use Rattle.col_document.specs.TypeText.{plain_text, span_text, type_text, unit_text};
+ghost use Rattle.col_document.specs.TypeText.{zone_text};
 
 use col_types::{DataType, Error, IntervalUnit, Text, TimeUnit};
 use itoa::Buffer;

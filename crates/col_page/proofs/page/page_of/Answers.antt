@@ -11,6 +11,10 @@ loop-i-preserved c =
     let table = (document_view c.args.doc.now).table in
     let line = c.in_ok-has_error.ensures.line in
     record {
-      text = rw (flat_map-next (λ tree. line_text (outcome_of tree table)) trees c.loop-i.i _ c.tree.ensures) (line.text ∙ rw (c.table.ensures, c.loop-i.invariant.text) refl);
-      error = rw (list_any-next (λ tree. is_err (outcome_of tree table)) trees c.loop-i.i _ c.tree.ensures) (rw (c.loop-i.invariant.error, line.kind, c.table.ensures) refl);
+      text = rw (flat_map-next
+          (λ tree. line_text (outcome_of tree table)) trees c.loop-i.i _ c.tree.ensures)
+          (line.text ∙ rw (c.table.ensures, c.loop-i.invariant.text) refl);
+      error = rw (list_any-next
+          (λ tree. is_err (outcome_of tree table)) trees c.loop-i.i _ c.tree.ensures)
+          (rw (c.loop-i.invariant.error, line.kind, c.table.ensures) refl);
     }

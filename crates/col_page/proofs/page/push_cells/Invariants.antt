@@ -7,4 +7,5 @@ use Rattle.col_page.proofs.page.push_cells.Given as goal
 -- the cells so far, joined
 abbrev pub invariant-loop-row : goal.invariant-loop-row
 invariant-loop-row g l =
-    l.text.items ≡ l.initial.text.items ++ join_with_byte 44 (map cell_text (take l.row (column_of l.array).cells))
+    l.text.items ≡ l.initial.text.items ++ join_with_byte 44
+    (map cell_text (take l.row (column_of l.array).cells))
