@@ -1,5 +1,6 @@
 -- Sources and sinks: what a call takes or adds, and their counts of faults.
-use Rattle.std.specs.Prelude.{◌≡◌, ℕ, ◌^◌, ◌-◌, ◌<◌, ◌≤◌, ◌⊎◌, List, [], ◌++◌, length, take, Option, Some, None, ⊤}
+use Rattle.std.specs.Prelude.{◌≡◌, ℕ, ◌^◌, ◌-◌, ◌<◌, ◌≤◌, ◌⊎◌, List, [], ◌++◌, length, take}
+use Rattle.std.specs.Prelude.{Option, Some, None, ⊤}
 
 -- the greatest number that a count reaches: there it stands still
 abbrev pub last_count : ℕ

@@ -1,12 +1,14 @@
 -- What each status of a run tells: of the bytes that were taken, and of those that were written.
-use Rattle.std.specs.Prelude.{◌≡◌, ℕ, ◌+◌, ◌≤◌, Bool, true, false, List, [], ◌∷◌, length, map, codes, string_bytes, String, Option, Some, None, ⊤}
+use Rattle.std.specs.Prelude.{◌≡◌, ℕ, ◌+◌, ◌≤◌, Bool, true, false, List, [], ◌∷◌, length, map}
+use Rattle.std.specs.Prelude.{codes, string_bytes, String, Option, Some, None, ⊤}
 use Rattle.std.specs.declared.alloc.Global.{Global}
 use Rattle.col_document.specs.Document.{DocumentView, document_of}
 use Rattle.col_run.specs.Faults.{AddsBytes, AddsFront, FaultsRose, TakesAtMost, TakesCount}
 use Rattle.col_page.specs.Page.{has_error_line, page_text}
 use Rattle.col_page.specs.PageView.{PageView}
 use Rattle.col_run.specs.declared.status.Status.{Status}
-use Rattle.col_run.specs.declared.status.Status.TheVariants.{Done, Refused, Malformed, ReadFault, WriteFault, Memory, TooLong, Words}
+use Rattle.col_run.specs.declared.status.Status.TheVariants.{Done, Refused, Malformed, ReadFault}
+use Rattle.col_run.specs.declared.status.Status.TheVariants.{WriteFault, Memory, TooLong, Words}
 
 -- the most bytes that a document has: 64 mebibytes
 abbrev pub max_bytes : ℕ
@@ -21,8 +23,10 @@ abbrev pub ReadsAll : Option (List ℕ) → Option (List ℕ) → (List ℕ → 
 ReadsAll None rest fact = rest ≡ None
 ReadsAll (Some bytes) rest fact = (length bytes ≤ max_bytes) × (rest ≡ Some []) × fact bytes
 
--- the bytes are a document; its page, and nothing else, was written, and the flag tells whether some line is an error line
-pub record IsDelivered (old new : Option (List ℕ)) (has_error : Bool) (bytes : List ℕ) : Type 0 where
+-- the bytes are a document; its page, and nothing else, was written, and the flag tells
+-- whether some line is an error line
+pub record IsDelivered (old new : Option (List ℕ)) (has_error : Bool)
+    (bytes : List ℕ) : Type 0 where
   pub read : DocumentView
   pub is_document : document_of bytes ≡ Some read
   pub page : AddsBytes old (page_text read) new
@@ -34,8 +38,10 @@ pub record IsBroken (old new : Option (List ℕ)) (bytes : List ℕ) : Type 0 wh
   pub is_document : document_of bytes ≡ Some read
   pub page : AddsFront old (page_text read) new
 
--- what was written: the page of the document that was read, a front of it where writing failed, and else nothing
-abbrev pub WritesPage : Status → Option (List ℕ) → Option (List ℕ) → Option (List ℕ) → Option (List ℕ) → Type 0
+-- what was written: the page of the document that was read, a front of it where writing
+-- failed, and else nothing
+abbrev pub WritesPage : Status → Option (List ℕ) → Option (List ℕ) → Option (List ℕ)
+    → Option (List ℕ) → Type 0
 WritesPage Done left rest old new = ReadsAll left rest (IsDelivered old new false)
 WritesPage Refused left rest old new = ReadsAll left rest (IsDelivered old new true)
 WritesPage WriteFault left rest old new = ReadsAll left rest (IsBroken old new)
@@ -48,15 +54,19 @@ WritesPage Words left rest old new = new ≡ old
 -- where it is malformed, the whole input was read and is no document
 abbrev pub MalformedWhere : Status → Option (List ℕ) → Option (List ℕ) → Type 0
 MalformedWhere Malformed left rest = ReadsAll left rest (λ bytes. document_of bytes ≡ None)
-MalformedWhere Done left rest = ReadsAll left rest (λ bytes. (d : DocumentView) × (document_of bytes ≡ Some d))
-MalformedWhere Refused left rest = ReadsAll left rest (λ bytes. (d : DocumentView) × (document_of bytes ≡ Some d))
-MalformedWhere WriteFault left rest = ReadsAll left rest (λ bytes. (d : DocumentView) × (document_of bytes ≡ Some d))
+MalformedWhere Done left rest =
+    ReadsAll left rest (λ bytes. (d : DocumentView) × (document_of bytes ≡ Some d))
+MalformedWhere Refused left rest =
+    ReadsAll left rest (λ bytes. (d : DocumentView) × (document_of bytes ≡ Some d))
+MalformedWhere WriteFault left rest =
+    ReadsAll left rest (λ bytes. (d : DocumentView) × (document_of bytes ≡ Some d))
 MalformedWhere ReadFault left rest = ⊤
 MalformedWhere Memory left rest = ⊤
 MalformedWhere TooLong left rest = ⊤
 MalformedWhere Words left rest = ⊤
 
--- how many bytes were taken: one past the limit where the input is too long, else at most as many as the limit;
+-- how many bytes were taken: one past the limit where the input is too long, else at most as
+-- many as the limit;
 -- want of memory may come in front of that answer, and wrong words take nothing
 abbrev pub TakesWithin : Status → Option (List ℕ) → Option (List ℕ) → Type 0
 TakesWithin TooLong left rest = TakesCount left (max_bytes + 1) rest
@@ -70,7 +80,8 @@ TakesWithin ReadFault left rest = TakesAtMost left max_bytes rest
 
 -- the page is that of the document that was left
 abbrev pub IsPageOf : Option (List ℕ) → Option (List ℕ) → PageView → Type 0
-IsPageOf left rest page = (d : DocumentView) × ReadsAll left rest (λ bytes. document_of bytes ≡ Some d)
+IsPageOf left rest page =
+    (d : DocumentView) × ReadsAll left rest (λ bytes. document_of bytes ≡ Some d)
     × (page.text ≡ page_text d) × (page.has_error ≡ has_error_line d)
 
 -- why there is no page

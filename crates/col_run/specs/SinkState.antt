@@ -1,5 +1,6 @@
 -- A sink in memory: how it stands, and what a write answers and changes.
-use Rattle.std.specs.Prelude.{ℕ, ◌+◌, ◌-◌, ◌==◌, min, max, Bool, nat_lt, ◌||◌, ◌&&◌, List, [], ◌++◌, length, take, Result, Ok, Err, if◌then◌else◌}
+use Rattle.std.specs.Prelude.{ℕ, ◌+◌, ◌-◌, ◌==◌, min, max, Bool, nat_lt, ◌||◌, ◌&&◌, List, []}
+use Rattle.std.specs.Prelude.{◌++◌, length, take, Result, Ok, Err, if◌then◌else◌}
 use Rattle.std.specs.List.{list_any}
 use Rattle.col_run.specs.declared.source.Failed.{Failed}
 use Rattle.col_run.specs.Faults.{last_count}

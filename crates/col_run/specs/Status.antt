@@ -1,7 +1,8 @@
 -- How a run ends: the numbers and the texts.
 use Rattle.std.specs.Prelude.{ℕ, List, [], codes}
 use Rattle.col_run.specs.declared.status.Status.{Status}
-use Rattle.col_run.specs.declared.status.Status.TheVariants.{Done, Refused, Malformed, ReadFault, WriteFault, Memory, TooLong, Words}
+use Rattle.col_run.specs.declared.status.Status.TheVariants.{Done, Refused, Malformed, ReadFault}
+use Rattle.col_run.specs.declared.status.Status.TheVariants.{WriteFault, Memory, TooLong, Words}
 
 -- the status of the process
 abbrev pub status_number : Status → ℕ

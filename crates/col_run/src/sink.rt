@@ -1,8 +1,10 @@
 //! Where bytes go.
-ghost use Rattle.std.specs.Prelude.{◌≡◌, ℕ, ◌+◌, ◌<◌, ◌≤◌, List, length, take, Option, Some, None, IfOk, OnErr, vec_len, vec_capacity};
+ghost use Rattle.std.specs.Prelude.{◌≡◌, ℕ, ◌+◌, ◌<◌, ◌≤◌, List, length, take, Option, Some};
+ghost use Rattle.std.specs.Prelude.{None, IfOk, OnErr, vec_len, vec_capacity};
 ghost use Rattle.col_types.specs.Answer.{FailsByMemory};
 ghost use Rattle.col_run.specs.Faults.{FaultsRose, AddsBytes};
-ghost use Rattle.col_run.specs.SinkState.{SinkState, first_state, is_failing, write_answer, state_after};
+ghost use Rattle.col_run.specs.SinkState.{SinkState, first_state, is_failing, write_answer};
+ghost use Rattle.col_run.specs.SinkState.{state_after};
 
 use crate::source::Failed;
 use col_types::Error;

@@ -1,5 +1,6 @@
 //! Where bytes come from.
-ghost use Rattle.std.specs.Prelude.{◌≡◌, ℕ, ◌<◌, ◌≤◌, List, length, take, drop, Option, Some, None, IfOk, OnErr, vec_len};
+ghost use Rattle.std.specs.Prelude.{◌≡◌, ℕ, ◌<◌, ◌≤◌, List, length, take, drop, Option, Some};
+ghost use Rattle.std.specs.Prelude.{None, IfOk, OnErr, vec_len};
 ghost use Rattle.col_run.specs.Faults.{FaultsRose, TakesFront, IsSpent};
 
 use std::io::Read;
