@@ -1,27 +1,7 @@
 //! Evaluates the trees of a JSON document over its columns.
 #![tactic(auto)]
 
-mod cell_texts;
-mod cells;
-mod command;
-mod document;
-mod laws;
-mod page;
-mod pieces;
-mod sink;
-mod source;
-mod status;
-#[cfg(test)]
-mod tests;
-mod texts;
-mod transfer;
-mod trees;
-mod type_texts;
-
-use command::run;
-use sink::WriteSink;
-use source::ReadSource;
-use status::{Status, status_text};
+use col_run::{ReadSource, Status, WriteSink, run, status_text};
 use std::io::ErrorKind;
 use std::process::ExitCode;
 use std::rt::Env;

@@ -1,0 +1,7 @@
+pub mod Leaves
+pub mod Lists
+pub mod NumberTexts
+pub mod PositionNames
+pub mod Readings
+pub mod Spelling
+pub mod StoredCells

@@ -1,0 +1,23 @@
+-- What is read of the items of a list, one after another.
+use Rattle.std.proofs.Common.{◌≡◌, List, ◌∷◌, ◌++◌, Option, Some, None, refl}
+use Rattle.std.proofs.lemmas.Option.{none-some, same_Some}
+use Rattle.col_document.specs.Json.{◌>>=◌, joined}
+
+-- what is done, in front of what the rest gives
+abbrev pub front : {Y : Type 0} → List Y → Option (List Y) → Option (List Y)
+front done None = None
+front done (Some rest) = Some (done ++ rest)
+
+-- what is read on was there
+pub bind_some : {X Y : Type 0} (f : X → Option Y) (o : Option X) (y : Y) → (o >>= f) ≡ Some y
+    → (x : X) × (o ≡ Some x) × (f x ≡ Some y)
+bind_some f None y e = absurd (none-some y e)
+bind_some f (Some x) y e = (x, refl, e)
+
+-- a list that was joined has a first item and a rest
+pub joined_some : {Y : Type 0} (o : Option Y) (rest : Option (List Y)) (ys : List Y)
+    → joined o rest ≡ Some ys → (y : Y) × (zs : List Y) × (o ≡ Some y) × (rest ≡ Some zs)
+    × (y ∷ zs ≡ ys)
+joined_some None rest ys e = absurd (none-some ys e)
+joined_some (Some y) None ys e = absurd (none-some ys e)
+joined_some (Some y) (Some zs) ys e = (y, zs, refl, refl, same_Some _ _ e)

@@ -1,0 +1,49 @@
+-- What a reading answers but for want of memory, and what the code's pieces stand for.
+use Rattle.std.specs.Prelude.{◌≡◌, nat_le, if◌then◌else◌, ◌&&◌, ◌^◌, nat_lt, length, List, map}
+use Rattle.std.specs.Prelude.{reverse, Option, Some, None, Result, Ok, Err, ⊤}
+use Rattle.col_types.specs.Column.{Column, is_table}
+use Rattle.col_array.specs.Any.{scalar_cell, scalar_type}
+use Rattle.col_eval.specs.Tree.{Tree, column, literal, step, level_count, tree_of}
+use Rattle.col_eval.specs.Typing.{max_levels}
+use Rattle.col_eval.specs.declared.expr.Expr.{Expr}
+use Rattle.col_eval.specs.declared.expr.Op.{Op}
+use Rattle.col_document.specs.declared.document.ReadError.{ReadError}
+use Rattle.col_document.specs.declared.document.ReadError.TheVariants.{Memory, Malformed}
+use Rattle.col_document.specs.declared.pieces.Piece as code
+use Rattle.col_document.specs.declared.pieces.Piece.TheVariants as code_piece
+use Rattle.col_document.specs.Document.{Piece, leaf, named}
+
+-- the fact, for each error but want of memory: that one is free
+abbrev pub UnlessMemory : ReadError → Type 0 → Type 0
+UnlessMemory Memory fact = ⊤
+UnlessMemory Malformed fact = fact
+
+-- the fact, but for want of memory
+abbrev pub ButForMemory : {X : Type 0} → Result X ReadError → Type 0 → Type 0
+ButForMemory (Ok x) fact = fact
+ButForMemory (Err e) fact = UnlessMemory e fact
+
+-- the answer is what is read, seen by a view, or malformed where nothing is, but for want of memory
+abbrev pub Reads : {X Y : Type 0} → (X → Y) → Result X ReadError → Option Y → Type 0
+Reads view (Ok x) wanted = wanted ≡ Some (view x)
+Reads view (Err e) wanted = UnlessMemory e (wanted ≡ None)
+
+-- the item that a piece is
+abbrev pub piece_view : code.Piece → Piece
+piece_view (code_piece.Column position) = leaf (column position)
+piece_view (code_piece.Literal scalar) = leaf (literal (scalar_type scalar) (scalar_cell scalar))
+piece_view (code_piece.Step op) = named op
+
+-- a step on two trees, where it has no more levels than a tree may have
+abbrev pub bounded_step : Op → Tree → Tree → Option Tree
+bounded_step op left right =
+    if nat_le (level_count (step op left right)) max_levels then Some (step op left right) else None
+
+-- the trees of some expressions, the last one first
+abbrev pub trees_of : List Expr → List Tree
+trees_of trees = reverse (map tree_of trees)
+
+-- the columns as a table: fewer than 2 ^ 32, of one length
+abbrev pub only_table : List Column → Option (List Column)
+only_table columns =
+    if nat_lt (length columns) (2 ^ 32) && is_table columns then Some columns else None

@@ -1,0 +1,20 @@
+//! What holds of the definitions, as facts of their own.
+ghost use Rattle.col_document.specs.Laws.{IsReadFromItsSpelling, IsSpelledInOneWay};
+ghost use Rattle.col_document.specs.Laws.{NamesItsPosition};
+
+/// A list of items leaves a tree exactly where it is the tree's spelling in postfix order, and the
+/// tree has at most 256 levels.
+pub fn a_tree_is_spelled_in_one_way()
+    ensures { IsSpelledInOneWay }
+{}
+
+/// A JSON list is read as a tree exactly where its items are the tree's spelling, and the tree has
+/// at most 256 levels.
+pub fn a_tree_is_read_from_its_spelling()
+    ensures { IsReadFromItsSpelling }
+{}
+
+/// A column's name tells a position exactly where it is `c` and the position's digits.
+pub fn a_column_name_is_its_position()
+    ensures { NamesItsPosition }
+{}

@@ -1,0 +1,11 @@
+//! Documents: the tables and the trees that JSON texts hold.
+#![tactic(auto)]
+
+mod cells;
+mod document;
+pub mod laws;
+mod pieces;
+mod texts;
+mod trees;
+
+pub use document::{Document, ReadError, read_document};

@@ -1,0 +1,62 @@
+-- Pages: a line for each tree of a document.
+use Rattle.std.specs.Prelude.{◌≡◌, ℕ, zero, suc, Bool, true, false, List, [], ◌++◌, map, codes}
+use Rattle.std.specs.Prelude.{is_err, Result, Ok, Err}
+use Rattle.std.specs.Fmt.{signed_decimal}
+use Rattle.std.specs.List.{flat_map, join_with_byte, list_any}
+use Rattle.col_model.specs.Cell.{Cell, null, whole, truth, parts}
+use Rattle.col_types.specs.Column.{Column}
+use Rattle.col_types.specs.declared.error.Error.{Error}
+use Rattle.col_types.specs.declared.error.Error.TheVariants.{Memory, NotYetImplemented}
+use Rattle.col_types.specs.declared.error.Error.TheVariants.{InvalidArgumentError, Overflow}
+use Rattle.col_types.specs.declared.error.Error.TheVariants.{DivideByZero, OutOfRange, OutOfSpec}
+use Rattle.col_eval.specs.Meaning.{outcome_of}
+use Rattle.col_document.specs.Document.{DocumentView}
+use Rattle.col_document.specs.TypeText.{type_text}
+
+-- the text of a cell: a number in decimal, a truth value by its name, an interval as the list of
+-- its numbers; there is no array of other cells yet, and they have no text
+abbrev pub cell_text : Cell → List ℕ
+cell_text null = codes "null"
+cell_text (whole n) = signed_decimal n
+cell_text (truth true) = codes "true"
+cell_text (truth false) = codes "false"
+cell_text (parts ns) = codes "[" ++ join_with_byte 44 (map signed_decimal ns) ++ codes "]"
+cell_text _ = []
+
+-- the cells in brackets, joined by commas
+abbrev pub cells_text : List Cell → List ℕ
+cells_text cells = codes "[" ++ join_with_byte 44 (map cell_text cells) ++ codes "]"
+
+-- what stands between the cell at a row and the one before it
+abbrev pub comma_before : ℕ → List ℕ
+comma_before zero = []
+comma_before (suc row) = codes ","
+
+-- the name of an error's variant
+abbrev pub error_name : Error → List ℕ
+error_name Memory = codes "Memory"
+error_name NotYetImplemented = codes "NotYetImplemented"
+error_name (InvalidArgumentError reason) = codes "InvalidArgumentError"
+error_name Overflow = codes "Overflow"
+error_name DivideByZero = codes "DivideByZero"
+error_name OutOfRange = codes "OutOfRange"
+error_name OutOfSpec = codes "OutOfSpec"
+
+-- the line of an outcome: the column's type and cells, or the error's name
+abbrev pub line_text : Result Column Error → List ℕ
+line_text (Ok c) = type_text c.data_type ++ codes " " ++ cells_text c.cells ++ codes "\n"
+line_text (Err e) = codes "error " ++ error_name e ++ codes "\n"
+
+-- the page of a document: the line of each tree's outcome, in order
+abbrev pub page_text : DocumentView → List ℕ
+page_text d = flat_map (λ tree. line_text (outcome_of tree d.table)) d.trees
+
+-- whether some line is an error line
+abbrev pub has_error_line : DocumentView → Bool
+has_error_line d = list_any (λ tree. is_err (outcome_of tree d.table)) d.trees
+
+-- a line was added for an outcome, and its kind told
+pub record IsLine (outcome : Result Column Error) (old new : List ℕ)
+    (is_error : Bool) : Type 0 where
+  pub text : new ≡ old ++ line_text outcome
+  pub kind : is_error ≡ is_err outcome

@@ -1,0 +1,51 @@
+-- A sink in memory: how it stands, and what a write answers and changes.
+use Rattle.std.specs.Prelude.{ℕ, ◌+◌, ◌-◌, ◌==◌, min, max, Bool, nat_lt, ◌||◌, ◌&&◌, List, []}
+use Rattle.std.specs.Prelude.{◌++◌, length, take, Result, Ok, Err, if◌then◌else◌}
+use Rattle.std.specs.List.{list_any}
+use Rattle.col_run.specs.declared.source.Failed.{Failed}
+use Rattle.col_run.specs.Faults.{last_count}
+
+pub record SinkState : Type 0 where
+  pub written : List ℕ
+  -- how many bytes it still takes
+  pub room : ℕ
+  -- the most bytes that a call moves
+  pub step : ℕ
+  -- the numbers of the calls that fail
+  pub fails : List ℕ
+  -- the number of the next call
+  pub calls : ℕ
+  pub faults : ℕ
+
+-- before the first call
+abbrev pub first_state : ℕ → ℕ → List ℕ → SinkState
+first_state room step fails =
+    record { written = []; room = room; step = max step 1; fails = fails; calls = 0; faults = 0 }
+
+-- one more, or the last number that a count reaches
+abbrev pub next_count : ℕ → ℕ
+next_count n = min (n + 1) last_count
+
+-- whether the next call fails, where its piece has so many bytes
+abbrev pub is_failing : SinkState → ℕ → Bool
+is_failing s count = list_any (λ n. n == s.calls) s.fails || (nat_lt 0 count && (s.room == 0))
+
+-- how many of so many bytes a call moves, where it does not fail
+abbrev pub moved_count : SinkState → ℕ → ℕ
+moved_count s count = min (min count s.step) s.room
+
+-- what a write of the piece answers
+abbrev pub write_answer : SinkState → List ℕ → Result ℕ Failed
+write_answer s piece =
+    if is_failing s (length piece) then Err (record {}) else Ok (moved_count s (length piece))
+
+-- how a write of the piece leaves the sink
+abbrev pub state_after : SinkState → List ℕ → SinkState
+state_after s piece =
+    if is_failing s (length piece)
+    then record s { calls = next_count s.calls; faults = next_count s.faults }
+    else record s {
+      calls = next_count s.calls;
+      written = s.written ++ take (moved_count s (length piece)) piece;
+      room = s.room - moved_count s (length piece);
+    }

@@ -1,0 +1,13 @@
+//! The run of a command: from its words and the bytes of a source to a sink and a status.
+#![tactic(auto)]
+
+mod command;
+mod sink;
+mod source;
+mod status;
+mod transfer;
+
+pub use command::run;
+pub use sink::{MemorySink, Sink, WriteSink};
+pub use source::{Failed, ReadSource, Source, SteadySource};
+pub use status::{Status, status_text};

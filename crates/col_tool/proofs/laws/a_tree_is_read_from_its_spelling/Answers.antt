@@ -1,5 +1,0 @@
-use Rattle.col_tool.proofs.Leaves.{spelling-read, tree-read_from_spelling}
-use Rattle.col_tool.proofs.laws.a_tree_is_read_from_its_spelling.Goals as goal
-
-pub returns : goal.returns
-returns c = λ items t. (tree-read_from_spelling items t, λ h. spelling-read items t h.0 h.1)
