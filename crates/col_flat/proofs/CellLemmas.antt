@@ -1,5 +1,5 @@
 -- The values of an array are cells of its type, since their numbers fit the fields of it.
-use Rattle.std.proofs.Common.{◌≡◌, ◌≢◌, map, true, false, Bool, List, [], ◌∷◌, Option, Some, None}
+use Rattle.std.proofs.Common.{◌≡◌, ◌≢◌, map, true, false, Bool, List, [], ◌∷◌, Option}
 use Rattle.std.proofs.Common.{ℤ, IsTrue, refl, sym, ap, ◌∙◌}
 use Rattle.std.specs.List.{list_all}
 use Rattle.std.specs.Prelude.{unwrap_or}
