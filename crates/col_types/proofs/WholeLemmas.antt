@@ -154,24 +154,24 @@ nearest-64 m h = grind (arith, ints, nat_tests)
 -- `signed_product` of what the factors stand for
 pub seen_product : (w : Width) (a b : ℤ) → FitsSigned w a → FitsSigned w b
     → nearest_number (signed w) (int_wrapping_mul w a b)
-        ≡ wrapped_number (signed w) (nearest_number (signed w) a *ℤ nearest_number (signed w) b)
+    ≡ wrapped_number (signed w) (nearest_number (signed w) a *ℤ nearest_number (signed w) b)
 seen_product w a b f g =
     let fits : FitsSigned w (int_wrapping_mul w a b) =
-        rw (wrapping_mul_is w a b f g) (SFits-int_wrap w (a *ℤ b)) in
+    rw (wrapping_mul_is w a b f g) (SFits-int_wrap w (a *ℤ b)) in
     rw (nearest-signed w a f, nearest-signed w b g, nearest-signed w _ fits)
-        (signed_product w a b f g)
+    (signed_product w a b f g)
 
 -- `unsigned_or` at 64 bits of what the numbers stand for
 pub seen_or_64 : (a b : ℕ) → a < 2 ^ 64 → b < 2 ^ 64
     → nearest_number (unsigned w64) (pos (bit_or a b)) ≡ bitwise_or (unsigned w64)
-        (nearest_number (unsigned w64) (pos a)) (nearest_number (unsigned w64) (pos b))
+    (nearest_number (unsigned w64) (pos a)) (nearest_number (unsigned w64) (pos b))
 seen_or_64 a b f g =
     rw (nearest-64 a f, nearest-64 b g, nearest-64 _ (or_lt 64 a b f g)) (or_64 a b f g)
 
 -- `unsigned_xor` at 64 bits of what the numbers stand for
 pub seen_xor_64 : (a b : ℕ) → a < 2 ^ 64 → b < 2 ^ 64
     → nearest_number (unsigned w64) (pos (bit_xor a b)) ≡ bitwise_xor (unsigned w64)
-        (nearest_number (unsigned w64) (pos a)) (nearest_number (unsigned w64) (pos b))
+    (nearest_number (unsigned w64) (pos a)) (nearest_number (unsigned w64) (pos b))
 seen_xor_64 a b f g =
     rw (nearest-64 a f, nearest-64 b g, nearest-64 _ (xor_lt 64 a b f g)) (xor_64 a b f g)
 
