@@ -1,2 +1,3 @@
-pub mod ClosureLemmas
-pub mod OverflowLemmas
+pub mod KernelLemmas
+pub mod RowLemmas
+pub mod StepLemmas
