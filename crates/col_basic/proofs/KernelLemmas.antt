@@ -1,12 +1,12 @@
 -- What a kernel answers whose closure answers a step on two values.
-use Rattle.std.proofs.Common.{◌≡◌, ◌≢◌, ◌⊎◌, ◌↔◌, ℤ, Bool, true, false, ◌==◌, List, [], ◌∷◌}
-use Rattle.std.proofs.Common.{map, inl, inr, Option, Some, None, option_map, Result, Ok, Err}
+use Rattle.std.proofs.Common.{◌≡◌, ◌≢◌, ◌⊎◌, ℤ, Bool, true, false, ◌==◌, List, [], ◌∷◌}
+use Rattle.std.proofs.Common.{inl, inr, Option, Some, None, option_map, Result, Ok, Err}
 use Rattle.std.proofs.Common.{refl, sym, ap, ◌∙◌, eq-eqb}
 use Rattle.std.specs.Prelude.{IfOk, IfErr}
 use Rattle.std.proofs.lemmas.Bool.{eqb-true, eqb-false}
-use Rattle.col_model.specs.Cell.{Cell, null, whole, Cause}
+use Rattle.col_model.specs.Cell.{Cell, whole, Cause}
 use Rattle.col_model.specs.Whole.{WholeType}
-use Rattle.col_model.specs.WholeStep.{Operation, Form, each_row, whole_step}
+use Rattle.col_model.specs.WholeStep.{Operation, Form, whole_step}
 use Rattle.col_types.specs.Answer.{Answers, ButForMemory, FailsByMemory, RefusedWhere}
 use Rattle.col_types.specs.Answer.{UnlessMemory, as_errors}
 use Rattle.col_types.proofs.AnswerLemmas.{UnlessMemory-both, UnlessMemory-weaker}
@@ -21,7 +21,7 @@ use Rattle.col_flat.specs.Parts.{PrimitiveParts, column_of, pair_numbers, slot_c
 use Rattle.col_flat.specs.Parts.{value_cell, zipped_slots}
 use Rattle.col_arity.specs.Rows.{AnswersWith, IsLengths, IsMapped}
 use Rattle.col_arity.specs.Rows.{RefusesFirst, RefusesWith}
-use Rattle.col_basic.specs.Answered.{checked_cell, plain_cell}
+use Rattle.col_basic.specs.Answered.{checked_cell}
 use Rattle.col_basic.proofs.RowLemmas.{each_slot, on_one, on_two, rows_of_one, rows_of_two}
 use Rattle.col_basic.proofs.RowLemmas.{slots_made, slots_refused}
 

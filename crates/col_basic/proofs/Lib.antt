@@ -1,3 +1,4 @@
 pub mod KernelLemmas
 pub mod RowLemmas
 pub mod StepLemmas
+pub mod WrappedLemmas
