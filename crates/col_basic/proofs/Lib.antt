@@ -1,2 +1,4 @@
-pub mod ClosureLemmas
-pub mod OverflowLemmas
+pub mod KernelLemmas
+pub mod RowLemmas
+pub mod StepLemmas
+pub mod WrappedLemmas

@@ -2,5 +2,6 @@
 #![tactic(auto)]
 
 mod basic;
+pub mod laws;
 
 pub use basic::add::{add, add_scalar, checked_add, checked_add_scalar};

@@ -1,10 +1,9 @@
 //! Sums, row by row.
-ghost use Rattle.std.specs.Prelude.{◌≡◌, ◌≢◌, replicate};
+ghost use Rattle.std.specs.Prelude.{◌≡◌};
 ghost use Rattle.col_model.specs.Cell.{whole};
-ghost use Rattle.col_model.specs.WholeStep.{addition, plain, checked, whole_step, OverflowsSomewhere};
-ghost use Rattle.col_types.specs.Answer.{Answers, RefusedWhere, as_errors};
-ghost use Rattle.col_types.specs.Column.{kernel_answer, row_count, scalar_answer};
-ghost use Rattle.col_types.specs.declared.error.Reason.TheVariants.{Lengths};
+ghost use Rattle.col_model.specs.WholeStep.{addition, plain, checked, whole_step};
+ghost use Rattle.col_types.specs.Answer.{Answers, as_errors};
+ghost use Rattle.col_types.specs.Column.{kernel_answer, scalar_answer};
 ghost use Rattle.col_flat.specs.Parts.{column_of};
 ghost use Rattle.col_basic.specs.Answered.{checked_cell, plain_cell};
 
@@ -25,12 +24,6 @@ pub fn add<T: NativeArithmetics>(
     ensures answer { Answers column_of result
         (kernel_answer (whole_step addition plain T.whole_type)
         (column_of lhs.now) (column_of rhs.now)) }
-    ensures lengths { RefusedWhere result (Error.InvalidArgumentError Lengths)
-        (row_count (column_of lhs.now) ≢ row_count (column_of rhs.now)) }
-    ensures overflow { RefusedWhere result Error.Overflow
-        ((row_count (column_of lhs.now) ≡ row_count (column_of rhs.now))
-        × OverflowsSomewhere addition T.whole_type
-        (column_of lhs.now).cells (column_of rhs.now).cells) }
 {
     let data_type = lhs.data_type().try_clone(alloc)?;
     try_binary(alloc, lhs, rhs, data_type, plain_sum)
@@ -48,8 +41,6 @@ pub fn checked_add<T: NativeArithmetics>(
     ensures answer { Answers column_of result
         (kernel_answer (whole_step addition checked T.whole_type)
         (column_of lhs.now) (column_of rhs.now)) }
-    ensures lengths { RefusedWhere result (Error.InvalidArgumentError Lengths)
-        (row_count (column_of lhs.now) ≢ row_count (column_of rhs.now)) }
 {
     let data_type = lhs.data_type().try_clone(alloc)?;
     binary_checked(alloc, lhs, rhs, data_type, checked_sum)
@@ -66,9 +57,6 @@ pub fn add_scalar<T: NativeArithmetics>(
     ensures answer { Answers column_of result
         (scalar_answer (whole_step addition plain T.whole_type)
         (column_of lhs.now) (whole (T.value rhs.now))) }
-    ensures overflow { RefusedWhere result Error.Overflow (OverflowsSomewhere addition T.whole_type
-        (column_of lhs.now).cells
-        (replicate (row_count (column_of lhs.now)) (whole (T.value rhs.now)))) }
 {
     let rhs = *rhs;
     let data_type = lhs.data_type().try_clone(alloc)?;
