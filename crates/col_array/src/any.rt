@@ -2,16 +2,18 @@
 ghost use Rattle.std.specs.Prelude.{◌≡◌, ◌≢◌, ◌+◌, ◌<◌, ◌≤◌, ◌↔◌, IsTrue, IsOk, IfErr, IfOk, Some, replicate, slice_get};
 ghost use Rattle.col_model.specs.Cell.{null};
 ghost use Rattle.col_types.specs.DataKind.{kind_of};
-ghost use Rattle.col_types.specs.DataType.{IsStoredAs, type_error};
+ghost use Rattle.col_types.specs.DataType.{IsMadeOf, IsStoredAs, type_error};
 ghost use Rattle.col_types.specs.Answer.{ButForMemory, FailsByMemory, UnlessMemory};
 ghost use Rattle.col_types.specs.Column.{row_count};
-ghost use Rattle.col_flat.specs.Parts.{null_count_of};
+ghost use Rattle.col_flat.specs.Parts.{column_of, null_count_of};
 ghost use Rattle.col_array.specs.declared.any.AnyArray.TheVariants.{DaysMs, Int8, Int16, Int32, Int64, Int128, MonthDayNano, UInt8, UInt16, UInt32, UInt64};
 ghost use Rattle.col_array.specs.Any.{IsHeld, IsLaidOutAs, any_column, cut_column, layout_of};
 
 use crate::with_typed;
 use col_flat::PrimitiveArray;
-use col_types::{DataType, Error, PhysicalType, PrimitiveType, Reason, days_ms, months_days_ns};
+use col_types::{
+    DataType, Error, NativeType, PhysicalType, PrimitiveType, Reason, days_ms, months_days_ns,
+};
 use std::alloc::Global;
 
 /// An array of any type: each variant holds the arrays of one layout.
@@ -88,7 +90,7 @@ impl AnyArray {
         with_typed!(AnyArray, self, |array| array.data_type())
     }
 
-    /// The `length` slots from the row `offset` on. Nothing is copied or moved.
+    /// The `length` slots from the row `offset` on, of the same buffers.
     pub fn sliced(self, offset: usize, length: usize) -> Self
         requires { offset + length ≤ row_count (any_column self) }
         ensures { any_column result ≡ cut_column (any_column self) offset length }
@@ -161,40 +163,32 @@ fn nulls_of(
     ensures refused { IfErr result (λ e. UnlessMemory e (e ≡ type_error (kind_of data_type))) }
 {
     match native {
-        PrimitiveType::Int8 => Ok(AnyArray::from(PrimitiveArray::<i8>::new_null(
-            alloc, data_type, length,
-        )?)),
-        PrimitiveType::Int16 => Ok(AnyArray::from(PrimitiveArray::<i16>::new_null(
-            alloc, data_type, length,
-        )?)),
-        PrimitiveType::Int32 => Ok(AnyArray::from(PrimitiveArray::<i32>::new_null(
-            alloc, data_type, length,
-        )?)),
-        PrimitiveType::Int64 => Ok(AnyArray::from(PrimitiveArray::<i64>::new_null(
-            alloc, data_type, length,
-        )?)),
-        PrimitiveType::Int128 => Ok(AnyArray::from(PrimitiveArray::<i128>::new_null(
-            alloc, data_type, length,
-        )?)),
-        PrimitiveType::UInt8 => Ok(AnyArray::from(PrimitiveArray::<u8>::new_null(
-            alloc, data_type, length,
-        )?)),
-        PrimitiveType::UInt16 => Ok(AnyArray::from(PrimitiveArray::<u16>::new_null(
-            alloc, data_type, length,
-        )?)),
-        PrimitiveType::UInt32 => Ok(AnyArray::from(PrimitiveArray::<u32>::new_null(
-            alloc, data_type, length,
-        )?)),
-        PrimitiveType::UInt64 => Ok(AnyArray::from(PrimitiveArray::<u64>::new_null(
-            alloc, data_type, length,
-        )?)),
-        PrimitiveType::DaysMs => Ok(AnyArray::from(PrimitiveArray::<days_ms>::new_null(
-            alloc, data_type, length,
-        )?)),
-        PrimitiveType::MonthDayNano => Ok(AnyArray::from(PrimitiveArray::<months_days_ns>::new_null(
-            alloc, data_type, length,
-        )?)),
+        PrimitiveType::Int8 => Ok(AnyArray::Int8(nulls(alloc, data_type, length)?)),
+        PrimitiveType::Int16 => Ok(AnyArray::Int16(nulls(alloc, data_type, length)?)),
+        PrimitiveType::Int32 => Ok(AnyArray::Int32(nulls(alloc, data_type, length)?)),
+        PrimitiveType::Int64 => Ok(AnyArray::Int64(nulls(alloc, data_type, length)?)),
+        PrimitiveType::Int128 => Ok(AnyArray::Int128(nulls(alloc, data_type, length)?)),
+        PrimitiveType::UInt8 => Ok(AnyArray::UInt8(nulls(alloc, data_type, length)?)),
+        PrimitiveType::UInt16 => Ok(AnyArray::UInt16(nulls(alloc, data_type, length)?)),
+        PrimitiveType::UInt32 => Ok(AnyArray::UInt32(nulls(alloc, data_type, length)?)),
+        PrimitiveType::UInt64 => Ok(AnyArray::UInt64(nulls(alloc, data_type, length)?)),
+        PrimitiveType::DaysMs => Ok(AnyArray::DaysMs(nulls(alloc, data_type, length)?)),
+        PrimitiveType::MonthDayNano => Ok(AnyArray::MonthDayNano(nulls(alloc, data_type, length)?)),
     }
+}
+
+// An array of null slots of one native type.
+fn nulls<T: NativeType>(
+    alloc: Global,
+    data_type: DataType,
+    length: usize,
+) -> Result<PrimitiveArray<T>, Error>
+    ensures value { IfOk result (λ array. column_of array
+        ≡ record { data_type = kind_of data_type; cells = replicate length null }) }
+    ensures range { ButForMemory result (IsOk result ↔ IsMadeOf (kind_of data_type) T.PRIMITIVE) }
+    ensures refused { IfErr result (λ e. UnlessMemory e (e ≡ type_error (kind_of data_type))) }
+{
+    PrimitiveArray::new_null(alloc, data_type, length)
 }
 
 impl From<PrimitiveArray<i8>> for AnyArray {

@@ -6,7 +6,7 @@ use Rattle.std.proofs.lemmas.List.{length-map}
 use Rattle.std.proofs.lemmas.List.FromFn.{fill_by_all, length-range_with_len}
 use Rattle.std.proofs.lemmas.Option.{slice_get-map, get_or_from_slice_get}
 use Rattle.std.proofs.lemmas.Simd.{map-map, splat_is_map}
-use Rattle.col_model.specs.Cell.{Cell, null, whole, parts, Cause}
+use Rattle.col_model.specs.Cell.{Cell, null, whole, Cause}
 use Rattle.col_model.specs.WholeStep.{each_row}
 use Rattle.col_types.specs.Answer.{UnlessMemory, error_of}
 use Rattle.col_types.specs.Column.{Column, column_answer, is_table, kernel_answer, row_at, row_count, scalar_answer, table_row_count, types_of}
@@ -225,21 +225,16 @@ operand_outcome-right op left right table l e typed own hl h =
 -- a step beside a null gives null
 typed_step-null : (op : Op) (t : Option WholeType) (a : Cell) → typed_step op t a null ≡ Ok null
 typed_step-null op None a = refl
-typed_step-null op (Some t) null = refl
 typed_step-null op (Some t) (whole n) = refl
-typed_step-null op (Some t) (parts ns) = refl
+typed_step-null op (Some t) _ = refl
 
 -- each row is null beside a null
 each_row-null : (op : Op) (s t : DataKind) (cells : List Cell)
     → each_row (step_of op (Ok s) (Ok t)) cells (replicate (length cells) null) ≡ Ok
     (replicate (length cells) null)
 each_row-null op s t [] = refl
-each_row-null op s t (null ∷ cells) =
-    rw (typed_step-null op (whole_type_of s) null, each_row-null op s t cells) refl
-each_row-null op s t (whole n ∷ cells) =
-    rw (typed_step-null op (whole_type_of s) (whole n), each_row-null op s t cells) refl
-each_row-null op s t (parts ns ∷ cells) =
-    rw (typed_step-null op (whole_type_of s) (parts ns), each_row-null op s t cells) refl
+each_row-null op s t (c ∷ cells) =
+    rw (typed_step-null op (whole_type_of s) c, each_row-null op s t cells) refl
 
 -- a step on a column and a null gives nulls
 pub scalar_answer-null : (op : Op) (s t : DataKind) (l : Column)

@@ -1,9 +1,16 @@
 -- What the definitions of this crate say together.
-use Rattle.std.specs.Prelude.{◌≡◌, ℕ, ◌<◌, ◌≤◌, ◌⊎◌, List, map, slice_get, Some, Ok}
-use Rattle.col_model.specs.Cell.{Cause}
+use Rattle.std.specs.Prelude.{◌≡◌, ℕ, ◌<◌, ◌≤◌, ◌⊎◌, IsTrue, List, [], ◌∷◌, ◌++◌, length, map}
+use Rattle.std.specs.Prelude.{slice_get, Some, Ok, Err}
+use Rattle.std.specs.List.{All, list_all}
+use Rattle.col_model.specs.Cell.{Cell, Cause}
+use Rattle.col_types.specs.CellOf.{HoldsItsCells, holds_its_cells}
 use Rattle.col_types.specs.Column.{Column, row_at, table_row_count, types_of}
-use Rattle.col_eval.specs.Tree.{Tree}
-use Rattle.col_eval.specs.Meaning.{RowAnswer, cell, refused_at, RowsAnswer, all_cells, refusal, gathered, outcome_of}
+use Rattle.col_types.specs.DataKind.{DataKind}
+use Rattle.col_eval.specs.declared.expr.Op.{Op}
+use Rattle.col_eval.specs.Tree.{Tree, column, literal, step}
+use Rattle.col_eval.specs.Typing.{right_type, type_of}
+use Rattle.col_eval.specs.Meaning.{RowAnswer, cell, refused_at, row_meaning, step_of}
+use Rattle.col_eval.specs.Meaning.{RowsAnswer, all_cells, refusal, gathered, outcome_of}
 
 -- a refusal at a step and row is no later than another: its step is less, or the same and its row
 -- is not lower
@@ -36,3 +43,55 @@ OutcomeDependsOnCellsAlone =
     → row < table_row_count table → other_row < table_row_count other
     → row_at table row ≡ row_at other other_row
     → slice_get answer.cells row ≡ slice_get other_answer.cells other_row
+
+-- the steps of a tree in the order in which they are taken: those of the left operand, those of the
+-- right one, then the step itself
+abbrev pub steps_in_order : Tree → List Tree
+steps_in_order (column position) = []
+steps_in_order (literal t c) = []
+steps_in_order (step op left right) =
+    steps_in_order left ++ (steps_in_order right ++ (step op left right ∷ []))
+
+-- a tree gives a cell for a row
+abbrev pub GivesCell : List DataKind → List Cell → Tree → Type 0
+GivesCell types row tree = (c : Cell) × (row_meaning tree types row ≡ cell c)
+
+-- a step refuses a row itself: its operands give cells, and these it refuses
+pub record RefusesItself (types : List DataKind) (row : List Cell) (cause : Cause) (tree : Tree)
+    : Type 0 where
+  pub op : Op
+  pub left : Tree
+  pub right : Tree
+  pub a : Cell
+  pub b : Cell
+  pub is_step : tree ≡ step op left right
+  pub left_cell : row_meaning left types row ≡ cell a
+  pub right_cell : row_meaning right types row ≡ cell b
+  pub refuses : step_of op (type_of left types) (right_type right (type_of right types)) a b
+      ≡ Err cause
+
+-- a row is refused at a step of a tree: so many steps come before it, each gives a cell for the row,
+-- and this one refuses the row itself
+pub record IsRefusedAtStep (types : List DataKind) (row : List Cell) (number : ℕ) (cause : Cause)
+    (tree : Tree) : Type 0 where
+  pub earlier : List Tree
+  pub refusing : Tree
+  pub later : List Tree
+  pub in_order : steps_in_order tree ≡ earlier ++ (refusing ∷ later)
+  pub counted : length earlier ≡ number
+  pub earlier_give_cells : All (GivesCell types row) earlier
+  pub refuses : RefusesItself types row cause refusing
+
+-- the number of a refusal is the place of the step that refuses, and no earlier step refuses
+abbrev pub RefusalNamesItsStep : Type 0
+RefusalNamesItsStep =
+    (tree : Tree) (types : List DataKind) (row : List Cell) (number : ℕ) (cause : Cause)
+    → row_meaning tree types row ≡ refused_at number cause
+    → IsRefusedAtStep types row number cause tree
+
+-- where each column of a table holds cells of its type, so does the outcome
+abbrev pub OutcomeHoldsItsCells : Type 0
+OutcomeHoldsItsCells =
+    (tree : Tree) (table : List Column) (answer : Column)
+    → IsTrue (list_all holds_its_cells table) → outcome_of tree table ≡ Ok answer
+    → HoldsItsCells answer

@@ -10,4 +10,4 @@ mod typing;
 pub use evaluation::evaluate;
 pub use expr::{Expr, Op};
 pub use table::Table;
-pub use typing::typed_of;
+pub use typing::{MAX_LEVELS, typed_of};

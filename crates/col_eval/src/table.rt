@@ -22,11 +22,12 @@ impl Model for Table {
     ghost use Rattle.col_types.specs.Column.{Column, is_table, table_row_count};
     ghost use Rattle.col_array.specs.Any.{any_column};
     ghost use Rattle.std.specs.Coded.{codes};
+    ghost use Rattle.col_model.proofs.CellCode.{cell_code};
     ghost use Rattle.col_types.proofs.KindCode.{kind_code};
 
     ghost Value = { List Column };
 
-    ghost coded = { Prim.hlevel (codes, kind_code) };
+    ghost coded = { Prim.hlevel (codes, kind_code, cell_code) };
 
     ghost view = { λ a. map any_column a.columns.items };
 

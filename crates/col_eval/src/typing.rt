@@ -12,7 +12,8 @@ use crate::table::Table;
 use col_types::{DataType, Error, Reason};
 use std::alloc::Global;
 
-const MAX_LEVELS: usize = 256;
+/// The most levels that a tree with a type has; a leaf has one level.
+pub const MAX_LEVELS: usize = 256;
 
 /// The type of a tree over the types of the table's columns. Rows are not looked at.
 ///
