@@ -1,4 +1,4 @@
--- Reading a mask by its words: what the iterator of slots keeps, and no clause of another crate cites.
+-- Reading a mask by its words: what the iterator of slots keeps. No other crate's clause cites it.
 use Rattle.std.specs.Prelude.{◌≡◌, ℕ, ◌-◌, ◌%◌, ◌<◌, ◌≤◌, ◌^◌, Bool, List, length, take, drop}
 use Rattle.col_buf.specs.Bitmap.{number_of}
 

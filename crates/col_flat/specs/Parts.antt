@@ -48,7 +48,8 @@ abbrev pub slot_beneath : Bool → List ℤ → Option (List ℤ)
 slot_beneath true ns = Some ns
 slot_beneath false ns = None
 
--- the slots of values beneath their flags; a value without a flag is valid
+-- the slots of values beneath their flags; a value without a flag is valid: 7 and 9 beneath true
+-- and false are 7 and null, and beneath no flags 7 and 9
 abbrev pub masked_slots : List (List ℤ) → List Bool → List (Option (List ℤ))
 masked_slots [] flags = []
 masked_slots (ns ∷ values) [] = Some ns ∷ masked_slots values []
@@ -62,7 +63,8 @@ stored_cell valid n = slot_cell (slot_beneath valid (n ∷ []))
 abbrev pub stored_cells : List Bool → List ℤ → List Cell
 stored_cells flags values = map slot_cell (masked_slots (map (λ n. n ∷ []) values) flags)
 
--- an array's slots: without a mask all are valid, and what is stored beneath a null is none of them
+-- an array's slots: without a mask all are valid, and what is stored beneath a null is none of
+-- them: arrays of 7 and 9 and of 7 and 0, both beneath true and false, have the same slots
 abbrev pub slots_of : PrimitiveParts → List (Option (List ℤ))
 slots_of a = masked_slots a.values (unwrap_or a.validity [])
 
@@ -112,6 +114,11 @@ abbrev pub zipped_slots : {X Y : Type 0} → List (Option X) → List (Option Y)
 zipped_slots [] right = []
 zipped_slots (x ∷ left) [] = []
 zipped_slots (x ∷ left) (y ∷ right) = both_slots x y ∷ zipped_slots left right
+
+-- the rows of two arrays: both values, null where one of the two is null; 1 and null beside 2 and 3
+-- give 1 with 2 and null
+abbrev pub slot_pairs : PrimitiveParts → PrimitiveParts → List (Option (List ℤ × List ℤ))
+slot_pairs left right = zipped_slots (slots_of left) (slots_of right)
 
 -- the numbers of both values
 abbrev pub pair_numbers : {X Y M N : Type 0} → (X → M) → (Y → N) → X × Y → M × N

@@ -12,10 +12,11 @@ ghost use Rattle.col_flat.specs.Parts.{HasFlags, IsMaskOf, column_of, cut_parts,
 
 mod iterator;
 
+use crate::mutable::MutablePrimitiveArray;
 use col_buf::{Bitmap, Buffer};
 use col_types::{DataType, Error, NativeType, Reason};
 pub use iterator::{SlotIter, SlotPairs, pairs};
-use std::alloc::{AllocError, Global};
+use std::alloc::Global;
 use std::marker::Model;
 
 /// A column of values of a native type: a slot for each row, null or a value. Several holders may
@@ -101,10 +102,8 @@ impl<T: NativeType> PrimitiveArray<T> {
             (IsOk result ↔ IsMadeOf (kind_of data_type) T.PRIMITIVE) }
         ensures refused { IfErr result (λ e. UnlessMemory e (e ≡ type_error (kind_of data_type))) }
     {
-        check_type::<T>(&data_type)?;
-        let values = stored_values(alloc, T::zero(), slots)?;
-        let flags = flags_of(alloc, slots)?;
-        PrimitiveArray::from_flags(alloc, data_type, values, flags.as_slice())
+        let made = MutablePrimitiveArray::from_slots(alloc, slots)?;
+        made.into_array(alloc, data_type)
     }
 
     /// An array of the values, each of which is valid where its flag is true. No value is copied,
@@ -157,7 +156,6 @@ impl<T: NativeType> PrimitiveArray<T> {
             (IsOk result ↔ IsMadeOf (kind_of data_type) T.PRIMITIVE) }
         ensures refused { IfErr result (λ e. UnlessMemory e (e ≡ type_error (kind_of data_type))) }
     {
-        check_type::<T>(&data_type)?;
         let values = vec![in alloc; T::zero(); length]?;
         let flags = vec![in alloc; false; length]?;
         PrimitiveArray::from_flags(alloc, data_type, values, flags.as_slice())
@@ -349,28 +347,6 @@ fn cut_mask(validity: Option<Bitmap>, offset: usize, count: usize) -> Option<Bit
         Some(mask) => Some(mask.sliced(offset, count)),
         None => None,
     }
-}
-
-// The values that slots are stored as, one of which stands beneath each null.
-fn stored_values<T: NativeType>(
-    alloc: Global,
-    beneath_null: T,
-    slots: &[Option<T>],
-) -> Result<Vec<T>, AllocError>
-    ensures { IfOk result
-        (λ values. values.items ≡ map (λ slot. unwrap_or slot beneath_null) slots.now) }
-{
-    slots
-        .iter()
-        .map(|slot| slot.unwrap_or(beneath_null))
-        .collect(alloc)
-}
-
-// Whether each slot is valid.
-fn flags_of<T: NativeType>(alloc: Global, slots: &[Option<T>]) -> Result<Vec<bool>, AllocError>
-    ensures { IfOk result (λ flags. flags.items ≡ map is_some slots.now) }
-{
-    slots.iter().map(|slot| slot.is_some()).collect(alloc)
 }
 
 // A mask of the flags, and none where all are true.

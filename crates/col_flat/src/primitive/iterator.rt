@@ -5,7 +5,7 @@ ghost use Rattle.std.specs.Option.{ForSome, option_copied};
 ghost use Rattle.col_buf.specs.Bitmap.{number_of};
 ghost use Rattle.col_flat.specs.Flags.{IsReading};
 ghost use Rattle.col_types.specs.Column.{row_count};
-ghost use Rattle.col_flat.specs.Parts.{HasFlags, IsMaskOf, column_of, masked_slots, pair_numbers, slots_of, zipped_slots};
+ghost use Rattle.col_flat.specs.Parts.{HasFlags, IsMaskOf, column_of, masked_slots, pair_numbers, slot_pairs, zipped_slots};
 
 use crate::primitive::PrimitiveArray;
 use col_buf::Bitmap;
@@ -198,8 +198,8 @@ pub fn pairs<'a, T: NativeType, D: NativeType>(
 ) -> SlotPairs<'a, T, D>
     requires one_length { row_count (column_of lhs.now) ≡ row_count (column_of rhs.now) }
     requires combined { HasFlags (option_copied mask)
-        (map is_some (zipped_slots (slots_of lhs.now) (slots_of rhs.now))) }
-    ensures { result ≡ zipped_slots (slots_of lhs.now) (slots_of rhs.now) }
+        (map is_some (slot_pairs lhs.now rhs.now)) }
+    ensures { result ≡ slot_pairs lhs.now rhs.now }
 {
     SlotPairs::new(lhs.values.as_slice(), rhs.values.as_slice(), mask)
 }

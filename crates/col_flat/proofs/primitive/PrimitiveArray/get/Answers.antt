@@ -7,36 +7,47 @@ use Rattle.col_flat.proofs.primitive.PrimitiveArray.get.Goals as goal
 
 pub offset_bounds-as_slice-i : goal.offset_bounds-as_slice-i
 offset_bounds-as_slice-i g c =
-    let rows = rows_are g.T.NativeType.numbers _ c.self.inside.values c.self.inside.validity c.args.self.now c.self.view_is in
+    let rows = rows_are g.T.NativeType.numbers _ c.self.inside.values c.self.inside.validity
+    c.args.self.now c.self.view_is in
     rw c.as_slice.ensures (omega arith)
 
 pub bounds-as_slice-i : goal.bounds-as_slice-i
 bounds-as_slice-i g c =
-    let rows = rows_are g.T.NativeType.numbers _ c.self.inside.values c.self.inside.validity c.args.self.now c.self.view_is in
+    let rows = rows_are g.T.NativeType.numbers _ c.self.inside.values c.self.inside.validity
+    c.args.self.now c.self.view_is in
     rw c.as_slice.ensures (omega arith)
 
 pub returns-then-is_valid-clause-slot : goal.returns-then-is_valid-clause-slot
 returns-then-is_valid-clause-slot g c =
-    let rows = rows_are g.T.NativeType.numbers _ c.self.inside.values c.self.inside.validity c.args.self.now c.self.view_is in
+    let rows = rows_are g.T.NativeType.numbers _ c.self.inside.values c.self.inside.validity
+    c.args.self.now c.self.view_is in
     let values = map g.T.NativeType.numbers c.self.inside.values in
     let within : c.args.i < length c.self.inside.values = omega arith in
-    let read = slice_get_read c.self.inside.values (length c.self.inside.values) c.args.i c.index-as_slice-i.result refl within (rw c.as_slice.ensures at c.index-as_slice-i.is) in
-    let stored : slice_get values c.args.i ≡ Some (g.T.NativeType.numbers c.index-as_slice-i.result) =
-    slice_get-map g.T.NativeType.numbers c.self.inside.values c.args.i ∙ ap (option_map g.T.NativeType.numbers) read in
+    let read = slice_get_read c.self.inside.values
+    (length c.self.inside.values) c.args.i c.index-as_slice-i.result refl within
+    (rw c.as_slice.ensures at c.index-as_slice-i.is) in
+    let stored : slice_get values c.args.i
+    ≡ Some (g.T.NativeType.numbers c.index-as_slice-i.result) =
+    slice_get-map g.T.NativeType.numbers c.self.inside.values c.args.i
+    ∙ ap (option_map g.T.NativeType.numbers) read in
     let valid = rw (← c.self.view_is) at (c.if-is_valid.ensures.0 refl) in
-    rw (← c.self.view_is) (slot_at_valid values (unwrap_or c.self.inside.validity []) c.args.i _ stored valid)
+    rw (← c.self.view_is)
+    (slot_at_valid values (unwrap_or c.self.inside.validity []) c.args.i _ stored valid)
 
 pub returns-then-is_valid-clause-value : goal.returns-then-is_valid-clause-value
 returns-then-is_valid-clause-value g c =
-    slice_get-map slot_cell (slots_of c.args.self.now) c.args.i ∙ ap (option_map slot_cell) (returns-then-is_valid-clause-slot g c)
+    slice_get-map slot_cell (slots_of c.args.self.now) c.args.i
+    ∙ ap (option_map slot_cell) (returns-then-is_valid-clause-slot g c)
 
 pub returns-else-is_valid-clause-slot : goal.returns-else-is_valid-clause-slot
 returns-else-is_valid-clause-slot g c =
-    let rows = rows_are g.T.NativeType.numbers _ c.self.inside.values c.self.inside.validity c.args.self.now c.self.view_is in
+    let rows = rows_are g.T.NativeType.numbers _ c.self.inside.values c.self.inside.validity
+    c.args.self.now c.self.view_is in
     let values = map g.T.NativeType.numbers c.self.inside.values in
     let within : c.args.i < length values = rw length-map (omega arith) in
     let none = rw (← c.self.view_is) at c.if-is_valid.ensures.1 in
-    rw (← c.self.view_is) (slot_at_null values (unwrap_or c.self.inside.validity []) c.args.i within none)
+    rw (← c.self.view_is)
+    (slot_at_null values (unwrap_or c.self.inside.validity []) c.args.i within none)
 
 pub returns-else-is_valid-clause-value : goal.returns-else-is_valid-clause-value
 returns-else-is_valid-clause-value g c =

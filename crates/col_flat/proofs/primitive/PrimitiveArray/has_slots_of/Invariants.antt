@@ -6,5 +6,6 @@ use Rattle.col_flat.proofs.primitive.PrimitiveArray.has_slots_of.Given as goal
 abbrev pub invariant-loop-slot : goal.invariant-loop-slot
 invariant-loop-slot g l = record {
   lengths : length l.slots ≡ length l.others;
-  same : (map slot_cell l.slots ≡ map slot_cell l.others) ↔ ((column_of l.self).cells ≡ (column_of l.other).cells);
+  same : (map slot_cell l.slots ≡ map slot_cell l.others)
+      ↔ ((column_of l.self).cells ≡ (column_of l.other).cells);
 }

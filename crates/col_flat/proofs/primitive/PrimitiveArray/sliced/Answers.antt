@@ -7,13 +7,15 @@ use Rattle.col_flat.proofs.primitive.PrimitiveArray.sliced.Goals as goal
 
 pub sliced-requires : goal.sliced-requires
 sliced-requires g c =
-    let rows = rows_are g.T.NativeType.numbers _ c.self.inside.values c.self.inside.validity c.args.self c.self.view_is in
+    let rows = rows_are g.T.NativeType.numbers _ c.self.inside.values c.self.inside.validity
+    c.args.self c.self.view_is in
     omega arith
 
 pub cut_mask-requires : goal.cut_mask-requires
 cut_mask-requires g c = λ mask is.
     let one_length = rw is at c.self.invariant.1 in
-    let rows = rows_are g.T.NativeType.numbers _ c.self.inside.values c.self.inside.validity c.args.self c.self.view_is in
+    let rows = rows_are g.T.NativeType.numbers _ c.self.inside.values c.self.inside.validity
+    c.args.self c.self.view_is in
     omega arith
 
 pub returns-clause-parts : goal.returns-clause-parts
