@@ -1,0 +1,9 @@
+//! Checks of kernels and of trees: that calls succeed, and what they answer where no document asks.
+#![tactic(auto)]
+
+#[cfg(test)]
+mod arity;
+#[cfg(test)]
+mod basic;
+#[cfg(test)]
+mod eval;

@@ -1,0 +1,7 @@
+//! Checks of the types of columns and of the native types: that calls succeed, and what they answer.
+#![tactic(auto)]
+
+#[cfg(test)]
+mod datatypes;
+#[cfg(test)]
+mod natives;
