@@ -169,8 +169,8 @@ document_read d = do
   columns ← each column_read column_items
   trees ← each tree_read tree_items
   if nat_lt (item_count column_items) (2 ^ 32) && is_table columns
-    then Some (record { table = columns; trees = trees })
-    else None
+      then Some (record { table = columns; trees = trees })
+      else None
 
 -- the document of some bytes: they are UTF-8, and the JSON text that they are holds one
 abbrev pub document_of : List ℕ → Option DocumentView

@@ -6,7 +6,7 @@ use Rattle.col_arity.proofs.masks.needed_mask.Goals as goal
 pub returns-then-null_count-eq0 : goal.returns-then-null_count-eq0
 returns-then-null_count-eq0 g c =
     all_valid-uncounted (slots_of c.args.array.now)
-        (sym c.null_count.ensures ∙ c.if-null_count-eq0.true)
+    (sym c.null_count.ensures ∙ c.if-null_count-eq0.true)
 
 pub returns-else-null_count-eq0 : goal.returns-else-null_count-eq0
 returns-else-null_count-eq0 g c =
