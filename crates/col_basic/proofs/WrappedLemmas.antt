@@ -18,6 +18,7 @@ use Rattle.col_model.specs.WholeStep.{Operation, addition, subtraction, multipli
 use Rattle.col_model.specs.WholeStep.{remainder, Form, plain, checked, wrapping, saturating}
 use Rattle.col_model.specs.WholeStep.{by_zero_answer, exact_result, is_by_zero}
 use Rattle.col_model.specs.WholeStep.{is_fitting_result, overflow_answer, whole_step}
+use Rattle.col_types.specs.Answer.{as_errors}
 use Rattle.col_basic.specs.Laws.{IsNearest, IsNullOrFits, IsWrapped, StepGivesItsType}
 use Rattle.col_basic.proofs.StepLemmas.{step-by_zero, step-fitting, step-unfit}
 
@@ -176,3 +177,74 @@ typed_step operation form t (whole a) (whole b) c h =
     typed_numbers operation form t a b c _ _ refl refl h
 typed_step operation form t (whole a) _ c h = inl cc
 typed_step operation form t _ y c h = inl cc
+
+-- of two numbers in their order, the second is not at most the first
+lt-le-not : (n m : ℤ) → int_lt n m ≡ true → int_le m n ≡ true → ⊥
+lt-le-not n m h g = grind (arith, ints, nat_tests)
+
+-- a number that fits is the wrapped one
+wrapped-fitting : (t : WholeType) (n : ℤ) → is_fitting t n ≡ true → wrapped_number t n ≡ n
+wrapped-fitting (signed w8) n f = grind (arith, ints, nat_tests)
+wrapped-fitting (signed w16) n f = grind (arith, ints, nat_tests)
+wrapped-fitting (signed w32) n f = grind (arith, ints, nat_tests)
+wrapped-fitting (signed w64) n f = grind (arith, ints, nat_tests)
+wrapped-fitting (signed w128) n f = grind (arith, ints, nat_tests)
+wrapped-fitting (unsigned w8) n f = grind (arith, ints, nat_tests)
+wrapped-fitting (unsigned w16) n f = grind (arith, ints, nat_tests)
+wrapped-fitting (unsigned w32) n f = grind (arith, ints, nat_tests)
+wrapped-fitting (unsigned w64) n f = grind (arith, ints, nat_tests)
+wrapped-fitting (unsigned w128) n f = grind (arith, ints, nat_tests)
+
+-- a number that fits is the nearest to itself
+nearest-fitting : (t : WholeType) (n : ℤ) → is_fitting t n ≡ true → nearest_number t n ≡ n
+nearest-fitting t n f = by_tests _ _ refl refl where
+  by_tests : (low high : Bool)
+      → int_lt n (least_number t) ≡ low → int_lt (greatest_number t) n ≡ high
+      → nearest_number t n ≡ n
+  by_tests true high l h =
+      absurd (lt-le-not n (least_number t) l (and_parts _ _ f).0)
+  by_tests false true l h =
+      absurd (lt-le-not (greatest_number t) n h (and_parts _ _ f).1)
+  by_tests false false l h = rw (l, h) refl
+
+-- the saturating form is the nearest number
+pub saturating_step : {T : Type 0} (value : T → ℤ) (operation : Operation) (t : WholeType)
+    (a b r : T)
+    → is_by_zero operation (value b) ≡ false
+    → is_fitting_result operation t (value a) (value b)
+    ≡ is_fitting t (exact_result operation (value a) (value b))
+    → value r ≡ nearest_number t (exact_result operation (value a) (value b))
+    → Ok (whole (value r))
+    ≡ as_errors (whole_step operation saturating t (whole (value a)) (whole (value b)))
+saturating_step value operation t a b r z same h = by_test _ refl where
+  by_test : (fits : Bool) → is_fitting_result operation t (value a) (value b) ≡ fits
+      → Ok (whole (value r))
+      ≡ as_errors (whole_step operation saturating t (whole (value a)) (whole (value b)))
+  by_test true f =
+      rw (
+        step-fitting operation saturating t (value a) (value b) z f,
+        h,
+        nearest-fitting t (exact_result operation (value a) (value b)) (sym same ∙ f),
+      ) refl
+  by_test false f = rw (step-unfit operation saturating t (value a) (value b) z f, h) refl
+
+-- the wrapping form is the wrapped number
+pub wrapping_step : {T : Type 0} (value : T → ℤ) (operation : Operation) (t : WholeType)
+    (a b r : T)
+    → is_by_zero operation (value b) ≡ false
+    → is_fitting_result operation t (value a) (value b)
+    ≡ is_fitting t (exact_result operation (value a) (value b))
+    → value r ≡ wrapped_number t (exact_result operation (value a) (value b))
+    → Ok (whole (value r))
+    ≡ as_errors (whole_step operation wrapping t (whole (value a)) (whole (value b)))
+wrapping_step value operation t a b r z same h = by_test _ refl where
+  by_test : (fits : Bool) → is_fitting_result operation t (value a) (value b) ≡ fits
+      → Ok (whole (value r))
+      ≡ as_errors (whole_step operation wrapping t (whole (value a)) (whole (value b)))
+  by_test true f =
+      rw (
+        step-fitting operation wrapping t (value a) (value b) z f,
+        h,
+        wrapped-fitting t (exact_result operation (value a) (value b)) (sym same ∙ f),
+      ) refl
+  by_test false f = rw (step-unfit operation wrapping t (value a) (value b) z f, h) refl

@@ -1,5 +1,6 @@
 //! What the definitions of a step say together, each law as a function that does nothing.
-ghost use Rattle.col_basic.specs.Laws.{FlagTellsOverflow, FormsAnswerByName, NullGivesNull, StepGivesItsType};
+ghost use Rattle.col_basic.specs.Laws.{FlagTellsOverflow, FormsAnswerByName};
+ghost use Rattle.col_basic.specs.Laws.{NullGivesNull, StepGivesItsType};
 
 /// Each form answers by its name: a division by 0 is null in the checked form and refused in the
 /// others; an exact number that fits is the answer; one that does not fit is refused in the plain

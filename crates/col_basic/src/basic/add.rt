@@ -14,8 +14,8 @@ use std::alloc::Global;
 
 /// The sums, row by row; null beside a null. The answer has the left array's type.
 ///
-/// Refused, in this order: `Lengths` where the arrays differ in length; `Overflow` where the sum of
-/// two valid slots of a row does not fit.
+/// Refused, in this order: `Lengths` exactly where the arrays differ in length; `Overflow` exactly
+/// where some row has two valid slots whose sum does not fit.
 pub fn add<T: NativeArithmetics>(
     alloc: Global,
     lhs: &PrimitiveArray<T>,
@@ -32,7 +32,7 @@ pub fn add<T: NativeArithmetics>(
 /// The sums, row by row; null beside a null, and where the sum does not fit. The answer has the
 /// left array's type.
 ///
-/// Refused: `Lengths` where the arrays differ in length.
+/// Refused: `Lengths` exactly where the arrays differ in length.
 pub fn checked_add<T: NativeArithmetics>(
     alloc: Global,
     lhs: &PrimitiveArray<T>,
@@ -48,7 +48,7 @@ pub fn checked_add<T: NativeArithmetics>(
 
 /// The sum of each slot and a number; null at a null. The answer has the array's type.
 ///
-/// Refused: `Overflow` where the sum of a valid slot does not fit.
+/// Refused: `Overflow` exactly where the sum of some valid slot and the number does not fit.
 pub fn add_scalar<T: NativeArithmetics>(
     alloc: Global,
     lhs: &PrimitiveArray<T>,

@@ -11,9 +11,19 @@ use Rattle.col_basic.proofs.laws.each_form_answers_by_its_name.Goals as goal
 zero_of : (operation : Operation) (t : WholeType) (a : ℤ) → Divides operation
     → AnswersByZero operation t a
 zero_of operation t a (inl h) =
-    record { plainly = rw h refl; checkedly = rw h refl; wrapped = rw h refl; saturated = rw h refl }
+    record {
+      plainly = rw h refl;
+      checkedly = rw h refl;
+      wrapped = rw h refl;
+      saturated = rw h refl;
+    }
 zero_of operation t a (inr h) =
-    record { plainly = rw h refl; checkedly = rw h refl; wrapped = rw h refl; saturated = rw h refl }
+    record {
+      plainly = rw h refl;
+      checkedly = rw h refl;
+      wrapped = rw h refl;
+      saturated = rw h refl;
+    }
 
 unfit_of : (operation : Operation) (t : WholeType) (a b : ℤ)
     → is_by_zero operation b ≡ false → is_fitting_result operation t a b ≡ false

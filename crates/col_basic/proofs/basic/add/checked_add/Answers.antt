@@ -13,6 +13,7 @@ returns g c =
           checked_two k c.args.lhs.now c.args.rhs.now (kind_of c.in_ok-data_type.data_type)
           c.binary_checked.result _
           (c.in_ok-data_type.ensures.value ∙ c.data_type.ensures.value)
-          c.binary_checked.ensures.answer c.binary_checked.ensures.lengths c.binary_checked.ensures.refused
+          c.binary_checked.ensures.answer c.binary_checked.ensures.lengths
+          c.binary_checked.ensures.refused
           (λ p r h. search rules);
     }
