@@ -10,7 +10,7 @@ use Rattle.std.proofs.lemmas.Option.{slice_get-map, get_or_from_slice_get}
 use Rattle.std.proofs.lemmas.Simd.{map-map, splat_is_map}
 use Rattle.col_model.specs.Cell.{Cell, null, whole, Cause}
 use Rattle.col_model.specs.WholeStep.{each_row}
-use Rattle.col_types.specs.Answer.{UnlessMemory, error_of}
+use Rattle.col_types.specs.Answer.{error_of}
 use Rattle.col_types.specs.Column.{Column, column_answer, is_table, kernel_answer, row_at}
 use Rattle.col_types.specs.Column.{row_count, scalar_answer, table_row_count, types_of}
 use Rattle.col_types.specs.DataKind.{DataKind}
@@ -18,9 +18,6 @@ use Rattle.col_types.specs.DataKind as kind
 use Rattle.col_types.specs.DataType.{whole_type_of}
 use Rattle.col_model.specs.Whole.{WholeType}
 use Rattle.col_types.specs.declared.error.Error.{Error}
-use Rattle.col_types.specs.declared.error.Error.TheVariants.{Memory, NotYetImplemented}
-use Rattle.col_types.specs.declared.error.Error.TheVariants.{InvalidArgumentError, Overflow}
-use Rattle.col_types.specs.declared.error.Error.TheVariants.{DivideByZero, OutOfRange, OutOfSpec}
 use Rattle.col_eval.specs.declared.expr.Op.{Op}
 use Rattle.col_eval.specs.Entries.{entry_of}
 use Rattle.col_eval.specs.Tree.{Tree, column, literal, step, step_count}
