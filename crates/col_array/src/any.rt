@@ -1,12 +1,15 @@
 //! Arrays of any type.
-ghost use Rattle.std.specs.Prelude.{◌≡◌, ◌≢◌, ◌+◌, ◌<◌, ◌≤◌, ◌↔◌, IsTrue, IsOk, IfErr, IfOk, Some, replicate, slice_get};
+ghost use Rattle.std.specs.Prelude.{◌≡◌, ◌≢◌, ◌+◌, ◌<◌, ◌≤◌, ◌↔◌, IsTrue, IsOk, IfErr, IfOk, Some};
+ghost use Rattle.std.specs.Prelude.{replicate, slice_get};
 ghost use Rattle.col_model.specs.Cell.{null};
 ghost use Rattle.col_types.specs.DataKind.{kind_of};
 ghost use Rattle.col_types.specs.DataType.{IsMadeOf, IsStoredAs, type_error};
 ghost use Rattle.col_types.specs.Answer.{ButForMemory, FailsByMemory, UnlessMemory};
 ghost use Rattle.col_types.specs.Column.{row_count};
 ghost use Rattle.col_flat.specs.Parts.{column_of, null_count_of};
-ghost use Rattle.col_array.specs.declared.any.AnyArray.TheVariants.{DaysMs, Int8, Int16, Int32, Int64, Int128, MonthDayNano, UInt8, UInt16, UInt32, UInt64};
+ghost use Rattle.col_array.specs.declared.any.AnyArray.TheVariants.{DaysMs, Int8, Int16, Int32};
+ghost use Rattle.col_array.specs.declared.any.AnyArray.TheVariants.{Int64, Int128, MonthDayNano};
+ghost use Rattle.col_array.specs.declared.any.AnyArray.TheVariants.{UInt8, UInt16, UInt32, UInt64};
 ghost use Rattle.col_array.specs.Any.{IsHeld, IsLaidOutAs, any_column, cut_column, layout_of};
 
 use crate::with_typed;

@@ -1,9 +1,12 @@
 -- Gathering the answers of the rows after a step is the step after gathering.
-use Rattle.std.proofs.Common.{◌≡◌, ℕ, ◌+◌, ◌<◌, ◌≤◌, Bool, true, false, nat_le, cond, List, [], ◌∷◌, map, Result, Ok, Err, refl, sym, ap, ◌∙◌, arith, le-leb, leb-true, leb-false}
+use Rattle.std.proofs.Common.{◌≡◌, ℕ, ◌+◌, ◌<◌, ◌≤◌, Bool, true, false, nat_le, cond, List, [], ◌∷◌}
+use Rattle.std.proofs.Common.{map, Result, Ok, Err, refl, sym, ap, ◌∙◌, arith, le-leb, leb-true}
+use Rattle.std.proofs.Common.{leb-false}
 use Rattle.std.proofs.lemmas.Bool.{lt-leb}
 use Rattle.col_model.specs.Cell.{Cell, Cause}
 use Rattle.col_model.specs.WholeStep.{before, each_row}
-use Rattle.col_eval.specs.Meaning.{RowAnswer, cell, refused_at, at_step, behind, going_on, RowsAnswer, all_cells, refusal, in_front, sooner, gathered}
+use Rattle.col_eval.specs.Meaning.{RowAnswer, cell, refused_at, at_step, behind, going_on}
+use Rattle.col_eval.specs.Meaning.{RowsAnswer, all_cells, refusal, in_front, sooner, gathered}
 
 -- a step's operands at one row, then the step: its left operand has m steps, its right one n
 abbrev pub row_step : ℕ → ℕ → (Cell → Cell → Result Cell Cause) → RowAnswer → RowAnswer → RowAnswer

@@ -1,6 +1,6 @@
 -- Where the columns of a table hold cells of their types, so does what a tree gives.
 use Rattle.std.proofs.Common.{◌≡◌, ℕ, zero, suc, ◌+◌, ℤ, ◌+ℤ◌, ◌⊎◌, inl, inr, Bool, true, false}
-use Rattle.std.proofs.Common.{◌&&◌, cond, nat_lt, List, [], ◌∷◌, map, slice_get, slice_index_or}
+use Rattle.std.proofs.Common.{cond, nat_lt, List, [], ◌∷◌, map, slice_get, slice_index_or}
 use Rattle.std.proofs.Common.{Option, None, Some, Result, Ok, Err, IsTrue, ok_or, refl, sym, ◌∙◌}
 use Rattle.std.specs.List.{list_all, range_with_len}
 use Rattle.std.proofs.lemmas.Simd.{map-map}

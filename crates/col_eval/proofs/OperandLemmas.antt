@@ -1,5 +1,7 @@
 -- What the operands of a step and the step give for a table.
-use Rattle.std.proofs.Common.{◌≡◌, ℕ, zero, suc, ◌+◌, true, ◌==◌, List, [], ◌∷◌, map, length, replicate, slice_get, slice_index_or, Option, None, Some, option_map, Result, Ok, Err, IsOk, IsTrue, refl, sym, ap, ◌∙◌, eqb-true, eq-eqb}
+use Rattle.std.proofs.Common.{◌≡◌, ℕ, zero, suc, ◌+◌, true, ◌==◌, List, [], ◌∷◌, map, length}
+use Rattle.std.proofs.Common.{replicate, slice_get, slice_index_or, Option, None, Some, option_map}
+use Rattle.std.proofs.Common.{Result, Ok, Err, IsOk, IsTrue, refl, sym, ap, ◌∙◌, eqb-true, eq-eqb}
 use Rattle.std.specs.List.{list_all, range_with_len}
 use Rattle.std.proofs.lemmas.Bool.{and_parts}
 use Rattle.std.proofs.lemmas.List.{length-map}
@@ -8,19 +10,20 @@ use Rattle.std.proofs.lemmas.Option.{slice_get-map, get_or_from_slice_get}
 use Rattle.std.proofs.lemmas.Simd.{map-map, splat_is_map}
 use Rattle.col_model.specs.Cell.{Cell, null, whole, Cause}
 use Rattle.col_model.specs.WholeStep.{each_row}
-use Rattle.col_types.specs.Answer.{UnlessMemory, error_of}
-use Rattle.col_types.specs.Column.{Column, column_answer, is_table, kernel_answer, row_at, row_count, scalar_answer, table_row_count, types_of}
+use Rattle.col_types.specs.Answer.{error_of}
+use Rattle.col_types.specs.Column.{Column, column_answer, is_table, kernel_answer, row_at}
+use Rattle.col_types.specs.Column.{row_count, scalar_answer, table_row_count, types_of}
 use Rattle.col_types.specs.DataKind.{DataKind}
 use Rattle.col_types.specs.DataKind as kind
 use Rattle.col_types.specs.DataType.{whole_type_of}
 use Rattle.col_model.specs.Whole.{WholeType}
 use Rattle.col_types.specs.declared.error.Error.{Error}
-use Rattle.col_types.specs.declared.error.Error.TheVariants.{Memory, NotYetImplemented, InvalidArgumentError, Overflow, DivideByZero, OutOfRange, OutOfSpec}
 use Rattle.col_eval.specs.declared.expr.Op.{Op}
 use Rattle.col_eval.specs.Entries.{entry_of}
 use Rattle.col_eval.specs.Tree.{Tree, column, literal, step, step_count}
 use Rattle.col_eval.specs.Typing.{right_type, type_of}
-use Rattle.col_eval.specs.Meaning.{cell, RowsAnswer, all_cells, refusal, row_meaning, rows_of, step_of, typed_rows, typed_step}
+use Rattle.col_eval.specs.Meaning.{cell, RowsAnswer, all_cells, refusal, row_meaning, rows_of}
+use Rattle.col_eval.specs.Meaning.{step_of, typed_rows, typed_step}
 use Rattle.col_eval.specs.Operand.{operand_outcome, rows_meaning}
 use Rattle.col_eval.proofs.GatherLemmas.{at_rows, gathered-cells, gathered-row_step, rows_step}
 use Rattle.col_eval.proofs.RefusalLemmas.{IsGatheredFrom-gathered}
@@ -116,8 +119,8 @@ entry_of-left op kind.int64 kind.int64 h = refl
 entry_of-left op _ _ h = absurd cc
 
 -- a step with a type has an entry for the types of its operands
-pub entry_of-operands : (op : Op) (left right : Tree) (t : DataKind) (table : List Column) (l : Column)
-    → IsOk (type_of (step op left right) (types_of table)) → operand_outcome left table ≡ Ok l
+pub entry_of-operands : (op : Op) (left right : Tree) (t : DataKind) (table : List Column)
+    (l : Column) → IsOk (type_of (step op left right) (types_of table)) → operand_outcome left table ≡ Ok l
     → right_type right (type_of right (types_of table)) ≡ Ok t
     → IsOk (entry_of op l.data_type t)
 entry_of-operands op left right t table l typed h right_typed =

@@ -1,9 +1,11 @@
 -- What all rows give is the cell of each, or their least refusal.
-use Rattle.std.proofs.Common.{◌≡◌, ℕ, zero, suc, ◌<◌, ◌≤◌, inl, inr, true, false, nat_le, cond, List, [], ◌∷◌, map, slice_get, Some, refl, ap, arith}
+use Rattle.std.proofs.Common.{◌≡◌, ℕ, zero, suc, ◌<◌, ◌≤◌, inl, inr, true, false, nat_le, cond}
+use Rattle.std.proofs.Common.{List, [], ◌∷◌, map, slice_get, Some, refl, ap, arith}
 use Rattle.std.proofs.lemmas.Bool.{leb-true, leb-false}
 use Rattle.std.proofs.Math.Nat.{eq-or-lt_of_le}
 use Rattle.col_model.specs.Cell.{Cell, Cause}
-use Rattle.col_eval.specs.Meaning.{RowAnswer, cell, refused_at, RowsAnswer, all_cells, refusal, in_front, sooner, gathered}
+use Rattle.col_eval.specs.Meaning.{RowAnswer, cell, refused_at, RowsAnswer, all_cells, refusal}
+use Rattle.col_eval.specs.Meaning.{in_front, sooner, gathered}
 use Rattle.col_eval.specs.Laws.{IsGatheredFrom, IsLeastRefusal, IsNoLater}
 
 -- a lesser or equal step, at the first row
@@ -35,7 +37,8 @@ IsLeastRefusal-below a rows number cause later h = record {
       (λ at. slice_get (a ∷ rows) at ≡ Some (refused_at other c)
       → IsNoLater number (suc h.row) other at) [
         | zero ↦ λ here. inl (later other c cc)
-        | suc below ↦ λ there. IsNoLater-down number h.row other below (h.is_least other below c there)
+        | suc below ↦ λ there. IsNoLater-down number h.row other below
+            (h.is_least other below c there)
       ] refused;
 }
 

@@ -8,7 +8,7 @@ use Rattle.col_eval.specs.declared.expr.Op.{Op}
 use Rattle.col_eval.specs.Tree.{Tree, column, literal, step, step_count}
 use Rattle.col_eval.specs.Typing.{right_type, type_of}
 use Rattle.col_eval.specs.Meaning.{RowAnswer, cell, refused_at, at_step, row_meaning, step_of}
-use Rattle.col_eval.specs.Laws.{GivesCell, IsRefusedAtStep, RefusesItself, steps_in_order}
+use Rattle.col_eval.specs.Laws.{GivesCell, IsRefusedAtStep, steps_in_order}
 use Rattle.col_eval.proofs.GatherLemmas.{row_step}
 
 -- a tree has so many steps

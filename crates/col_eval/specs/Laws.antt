@@ -70,8 +70,8 @@ pub record RefusesItself (types : List DataKind) (row : List Cell) (cause : Caus
   pub refuses : step_of op (type_of left types) (right_type right (type_of right types)) a b
       ≡ Err cause
 
--- a row is refused at a step of a tree: so many steps come before it, each gives a cell for the row,
--- and this one refuses the row itself
+-- a row is refused at a step of a tree: so many steps come before it, each gives a cell for the
+-- row, and this one refuses the row itself
 pub record IsRefusedAtStep (types : List DataKind) (row : List Cell) (number : ℕ) (cause : Cause)
     (tree : Tree) : Type 0 where
   pub earlier : List Tree

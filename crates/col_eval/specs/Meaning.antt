@@ -1,5 +1,6 @@
 -- What a tree gives for one row, and for a table.
-use Rattle.std.specs.Prelude.{ℕ, ◌+◌, nat_le, if◌then◌else◌, List, [], ◌∷◌, map, slice_index_or, Result, Ok, Err, Option, Some, None}
+use Rattle.std.specs.Prelude.{ℕ, ◌+◌, nat_le, if◌then◌else◌, List, [], ◌∷◌, map, slice_index_or}
+use Rattle.std.specs.Prelude.{Result, Ok, Err, Option, Some, None}
 use Rattle.std.specs.List.{range_with_len}
 use Rattle.col_model.specs.Cell.{Cell, null, Cause}
 use Rattle.col_model.specs.Whole.{WholeType}

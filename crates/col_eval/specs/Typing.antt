@@ -3,7 +3,8 @@ use Rattle.std.specs.Prelude.{ℕ, nat_lt, if◌then◌else◌, List, slice_get,
 use Rattle.std.specs.Option.{ok_or}
 use Rattle.col_types.specs.DataKind.{DataKind}
 use Rattle.col_types.specs.declared.error.Error.{Error}
-use Rattle.col_types.specs.declared.error.Error.TheVariants.{InvalidArgumentError, NotYetImplemented}
+use Rattle.col_types.specs.declared.error.Error.TheVariants.{InvalidArgumentError}
+use Rattle.col_types.specs.declared.error.Error.TheVariants.{NotYetImplemented}
 use Rattle.col_types.specs.declared.error.Reason.TheVariants.{Depth, Position}
 use Rattle.col_eval.specs.declared.expr.Op.{Op}
 use Rattle.col_eval.specs.Entries.{entry_of}

@@ -1,5 +1,6 @@
 //! Tables: columns of one length.
-ghost use Rattle.std.specs.Prelude.{◌≡◌, ◌<◌, ◌^◌, ◌==◌, IsTrue, IfOk, IfErr, Some, length, map, slice_get, vec_len, IsOk, ◌↔◌};
+ghost use Rattle.std.specs.Prelude.{◌≡◌, ◌<◌, ◌^◌, ◌==◌, IsTrue, IfOk, IfErr, Some, length, map};
+ghost use Rattle.std.specs.Prelude.{slice_get, vec_len, IsOk, ◌↔◌};
 ghost use Rattle.std.specs.List.{list_all};
 ghost use Rattle.col_types.specs.Column.{is_table, row_count, table_row_count};
 ghost use Rattle.col_types.specs.declared.error.Error.TheVariants.{InvalidArgumentError};

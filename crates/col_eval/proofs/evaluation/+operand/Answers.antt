@@ -4,7 +4,9 @@ use Rattle.col_array.specs.Any.{any_column, scalar_type, scalar_cell}
 use Rattle.col_eval.specs.Operand.{operand_column}
 use Rattle.col_eval.specs.Tree.{tree_of, literal}
 use Rattle.col_types.proofs.AnswerLemmas.{UnlessMemory-weaker}
-use Rattle.col_eval.proofs.OperandLemmas.{operand_outcome-column, operand_outcome-columns, operand_outcome-scalar, operand_outcome-left, operand_outcome-right, entry_of-operands, typed_parts}
+use Rattle.col_eval.proofs.OperandLemmas.{operand_outcome-column, operand_outcome-columns}
+use Rattle.col_eval.proofs.OperandLemmas.{operand_outcome-scalar, operand_outcome-left}
+use Rattle.col_eval.proofs.OperandLemmas.{operand_outcome-right, entry_of-operands, typed_parts}
 use Rattle.col_eval.proofs.TreeLemmas.{right_type-own}
 use Rattle.col_eval.proofs.evaluation.+operand.Goals as goal
 
