@@ -1,5 +1,5 @@
 -- One step on two cells of whole numbers, by operation, form and type.
-use Rattle.std.specs.Prelude.{◌≡◌, ℕ, ℤ, pos, ◌+ℤ◌, ◌-ℤ◌, ◌*ℤ◌, int_div, int_rem, Bool, false, not, ◌&&◌, if◌then◌else◌, List, [], ◌∷◌, slice_get, Option, Some, None, Result, Ok, Err}
+use Rattle.std.specs.Prelude.{ℤ, pos, ◌+ℤ◌, ◌-ℤ◌, ◌*ℤ◌, int_div, int_rem, Bool, false, not, ◌&&◌, if◌then◌else◌, List, [], ◌∷◌, Option, Some, None, Result, Ok, Err}
 use Rattle.std.specs.Ordering.{int_eq}
 use Rattle.col_model.specs.Cell.{Cell, null, whole, Cause, overflow, divide_by_zero}
 use Rattle.col_model.specs.Whole.{WholeType, is_fitting, wrapped_number, nearest_number}
@@ -99,16 +99,3 @@ abbrev pub each_row : (Cell → Cell → Result Cell Cause) → List Cell → Li
 each_row step [] right = Ok []
 each_row step (a ∷ left) [] = Ok []
 each_row step (a ∷ left) (b ∷ right) = before (step a b) (each_row step left right)
-
--- two whole numbers stand at a row of two lists, they have an exact number, and it does not fit
-pub record OverflowsAt (operation : Operation) (t : WholeType) (left right : List Cell) (row : ℕ) : Type 0 where
-  pub a : ℤ
-  pub b : ℤ
-  pub left_cell : slice_get left row ≡ Some (whole a)
-  pub right_cell : slice_get right row ≡ Some (whole b)
-  pub has_result : is_by_zero operation b ≡ false
-  pub unfit : is_fitting_result operation t a b ≡ false
-
--- some row overflows
-abbrev pub OverflowsSomewhere : Operation → WholeType → List Cell → List Cell → Type 0
-OverflowsSomewhere operation t left right = (row : ℕ) × OverflowsAt operation t left right row
