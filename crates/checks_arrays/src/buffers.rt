@@ -8,26 +8,27 @@ fn buffer_of(alloc: Global, bytes: &[u8]) -> Result<Buffer<u8>, Error> {
     Buffer::from_vec(alloc, Vec::from_slice(alloc, bytes)?).map_err(|refused| refused.0)
 }
 
-// The values of a text of 0s and 1s.
-fn bools_of(alloc: Global, bits: &str) -> Result<Vec<bool>, Error> {
+// A bitmap of a text of 0s and 1s.
+fn bitmap_of(alloc: Global, bits: &str) -> Result<Bitmap, Error> {
     let mut values = Vec::new(alloc);
     for bit in bits.bytes() {
         values.push(bit == b'1')?;
     }
-    Ok(values)
+    Bitmap::from_bools(alloc, values.as_slice())
 }
 
-// Whether the values of a bitmap are these, one by one, in words and in number.
-fn has_values(bitmap: &Bitmap, values: &[bool]) -> bool {
-    if bitmap.len() != values.len() {
+// Whether the values of a bitmap are these 0s and 1s, one by one, in words and in number.
+fn has_bits(bitmap: &Bitmap, bits: &[u8]) -> bool {
+    if bitmap.len() != bits.len() {
         return false;
     }
     let mut unset: usize = 0;
     let mut same = true;
     for i in 0..bitmap.len() {
+        let wanted = bits[i] == b'1';
         let bit = bitmap.chunk(i / 64) >> (i % 64) & 1 == 1;
-        same = same && bitmap.get_bit(i) == values[i] && bit == values[i];
-        if !values[i] {
+        same = same && bitmap.get_bit(i) == wanted && bit == wanted;
+        if !wanted {
             unset = unset.wrapping_add(1);
         }
     }
@@ -46,10 +47,8 @@ const BITS: &str =
 // Whether the bits of a part of the bytes are those of the text.
 fn reads_part(alloc: Global, offset: usize, count: usize) -> Result<bool, Error> {
     let bitmap = Bitmap::try_new(buffer_of(alloc, &BYTES)?, offset, count)?;
-    let values = bools_of(alloc, BITS)?;
-    let rest = values.as_slice().get(offset..).unwrap_or(&[]);
-    let part = rest.get(..count).unwrap_or(&[]);
-    Ok(has_values(&bitmap, part))
+    let rest = BITS.as_bytes().get(offset..).unwrap_or(&[]);
+    Ok(has_bits(&bitmap, rest.get(..count).unwrap_or(&[])))
 }
 
 #[test]
@@ -65,62 +64,83 @@ fn bits_are_counted_from_the_least_of_each_byte(rt: HostRuntime) -> Result<(), E
     Ok(())
 }
 
+// The refusal of a part of one byte.
+fn refusal_of(alloc: Global, offset: usize, count: usize) -> Result<Option<Error>, Error> {
+    Ok(Bitmap::try_new(buffer_of(alloc, &[178])?, offset, count).err())
+}
+
 #[test]
 fn bits_past_the_bytes_are_refused(rt: HostRuntime) -> Result<(), Error> {
     let cases = [
-        (3, 0, true),
-        (3, 5, true),
-        (8, 0, true),
-        (3, 6, false),
-        (9, 0, false),
-        (3, usize::MAX, false),
-        (usize::MAX, 1, false),
+        (3, 0, None),
+        (3, 5, None),
+        (8, 0, None),
+        (3, 6, Some(Error::OutOfSpec)),
+        (9, 0, Some(Error::OutOfSpec)),
+        (3, usize::MAX, Some(Error::OutOfSpec)),
+        (usize::MAX, 1, Some(Error::OutOfSpec)),
     ];
-    for (offset, count, fits) in cases {
-        let answer = Bitmap::try_new(buffer_of(rt.alloc(), &[178])?, offset, count);
-        let refused = matches!(answer, Err(Error::OutOfSpec));
-        assert_eq!(rt; refused, !fits, "{count} bits from bit {offset} on");
+    for (offset, count, wanted) in cases {
+        let refusal = refusal_of(rt.alloc(), offset, count)?;
+        assert_eq!(rt; refusal, wanted, "{count} bits from bit {offset} on");
     }
     Ok(())
 }
 
+// Whether both of two bitmaps are these 0s and 1s.
+fn is_both(alloc: Global, lhs: &Bitmap, rhs: &str, wanted: &str) -> Result<bool, Error> {
+    let rhs = bitmap_of(alloc, rhs)?;
+    if lhs.len() != rhs.len() {
+        return Ok(false);
+    }
+    Ok(has_bits(&lhs.and(alloc, &rhs)?, wanted.as_bytes()))
+}
+
 #[test]
 fn both_are_true_where_each_is(rt: HostRuntime) -> Result<(), Error> {
-    let alloc = rt.alloc();
     let cases = [
         ("", "", ""),
         ("0011", "0101", "0001"),
         ("111111111", "100000001", "100000001"),
     ];
     for (lhs, rhs, wanted) in cases {
-        let left = Bitmap::from_bools(alloc, bools_of(alloc, lhs)?.as_slice())?;
-        let right = Bitmap::from_bools(alloc, bools_of(alloc, rhs)?.as_slice())?;
-        assert_eq!(rt; left.len(), right.len(), "{lhs} and {rhs}");
-        let both = left.and(alloc, &right)?;
+        let bitmap = bitmap_of(rt.alloc(), lhs)?;
         assert!(rt;
-            has_values(&both, bools_of(alloc, wanted)?.as_slice()),
+            is_both(rt.alloc(), &bitmap, rhs, wanted)?,
             "{lhs} and {rhs}"
         );
     }
     Ok(())
 }
 
+// Whether a cut of another holder's values has the last two of three.
+fn cuts_buffer(buffer: &Buffer<u8>, wanted: &[u8; 2]) -> Result<bool, Error> {
+    let copy = buffer.share()?;
+    if copy.len() != 3 {
+        return Ok(false);
+    }
+    Ok(copy.sliced(1, 2).as_slice() == wanted.as_slice())
+}
+
+// Whether a cut of another holder's values has three of five.
+fn cuts_bitmap(bitmap: &Bitmap, wanted: &[u8]) -> Result<bool, Error> {
+    let copy = bitmap.share()?;
+    if copy.len() != 5 {
+        return Ok(false);
+    }
+    Ok(has_bits(&copy.sliced(1, 3), wanted))
+}
+
 #[test]
 fn each_call_of_col_buf_answers_with_ample_memory(rt: HostRuntime) -> Result<(), Error> {
     let buffer = buffer_of(rt.alloc(), &[5, 7, 9])?;
-    let copy = buffer.share()?;
-    assert!(rt; copy.len() == 3);
-    assert!(rt; copy.sliced(1, 2).as_slice() == [7, 9].as_slice(), "a cut");
+    assert!(rt; cuts_buffer(&buffer, &[7, 9])?, "a cut of a buffer");
     assert!(rt;
         buffer.as_slice() == [5, 7, 9].as_slice(),
-        "the other holder"
+        "its other holder"
     );
-    let values = [true, false, true, true, false];
-    let bitmap = Bitmap::from_bools(rt.alloc(), &values)?;
-    let copy = bitmap.share()?;
-    assert!(rt; has_values(&copy, &values), "the same values");
-    assert!(rt; bitmap.len() == 5);
-    assert!(rt; has_values(&bitmap.sliced(1, 3), &values[1..4]), "a cut");
-    assert!(rt; has_values(&copy, &values), "the other holder");
+    let bitmap = bitmap_of(rt.alloc(), "10110")?;
+    assert!(rt; cuts_bitmap(&bitmap, b"011")?, "a cut of a bitmap");
+    assert!(rt; has_bits(&bitmap, b"10110"), "its other holder");
     Ok(())
 }
