@@ -233,34 +233,6 @@ fn slots_are_changed_in_place_or_stay(rt: HostRuntime) -> Result<(), Error> {
     Ok(())
 }
 
-// The lowest byte.
-fn low_byte(a: i64) -> u8 {
-    a.to_le_bytes()[0]
-}
-
-// The number without its lowest byte.
-fn less(a: i64, byte: u8) -> i64 {
-    a.wrapping_sub(i64::from(byte))
-}
-
-#[test]
-fn a_function_may_go_from_one_native_type_to_another(rt: HostRuntime) -> Result<(), Error> {
-    let alloc = rt.alloc();
-    let array = array_of(alloc, &[Some(258), None, Some(-1)])?;
-    let bytes = unary(alloc, &array, low_byte, DataType::UInt8)?;
-    assert!(rt; bytes.len() == 3);
-    assert_eq!(rt;
-        [bytes.get(0), bytes.get(1), bytes.get(2)],
-        [Some(2), None, Some(255)]
-    );
-    let answer = binary(alloc, &array, &bytes, DataType::Int64, less);
-    assert!(rt;
-        answers(alloc, answer, &[Some(256), None, Some(-256)])?,
-        "less its lowest byte"
-    );
-    Ok(())
-}
-
 // The numbers below 130 from a row on, null at each multiple of the step.
 fn rows_from(alloc: Global, start: usize, step: i64) -> Result<Numbers, Error> {
     let mut slots = Vec::new(alloc);
