@@ -6,10 +6,7 @@ use std::alloc::Global;
 
 // Whether an array has so many slots of the type, all null.
 fn is_null_throughout(array: &AnyArray, data_type: &DataType, count: usize) -> bool {
-    array.data_type().equal(data_type)
-        && array.len() == count
-        && array.null_count() == count
-        && (array.len() == 0 || !array.is_valid(0))
+    array.data_type().equal(data_type) && array.len() == count && array.null_count() == count
 }
 
 // Whether a copy of an array is equal to it, and a cut of the copy too.
@@ -93,7 +90,7 @@ fn arrays_are_told_apart_by_type(rt: HostRuntime) -> Result<(), Error> {
 
 // Whether one slot of a native type is a valid slot of an array of any type.
 fn is_one_slot(array: AnyArray) -> bool {
-    array.len() == 1 && array.is_valid(0) && array.null_count() == 0
+    array.len() == 1 && array.null_count() == 0
 }
 
 #[test]
