@@ -46,17 +46,17 @@ nearest_number t n =
     if int_lt n (least_number t) then least_number t
     else (if int_lt (greatest_number t) n then greatest_number t else n)
 
--- the answer of one field before those of the fields behind it, or none where any is none
-abbrev pub checked_before : Option ℤ → Option (List ℤ) → Option (List ℤ)
-checked_before None rest = None
-checked_before (Some n) None = None
-checked_before (Some n) (Some ns) = Some (n ∷ ns)
+-- a value in front of a list, where both are there
+abbrev pub option_cons : {X : Type 0} → Option X → Option (List X) → Option (List X)
+option_cons None rest = None
+option_cons (Some x) None = None
+option_cons (Some x) (Some xs) = Some (x ∷ xs)
 
 -- numbers beside the types of their fields: all of them where each fits its own, else none
 abbrev pub checked_numbers : List WholeType → List ℤ → Option (List ℤ)
 checked_numbers [] ns = Some []
 checked_numbers (t ∷ ts) [] = Some []
-checked_numbers (t ∷ ts) (n ∷ ns) = checked_before (checked_number t n) (checked_numbers ts ns)
+checked_numbers (t ∷ ts) (n ∷ ns) = option_cons (checked_number t n) (checked_numbers ts ns)
 
 -- numbers beside the types of their fields, each wrapped into its own
 abbrev pub wrapped_numbers : List WholeType → List ℤ → List ℤ
