@@ -101,9 +101,9 @@ abbrev pub IsCellOf : DataKind → Cell → Type 0
 IsCellOf t c = IsTrue (is_cell_of t c)
 
 -- a column whose cells are of its type
-abbrev pub holds_its_cells : Column → Bool
-holds_its_cells c = list_all (is_cell_of c.data_type) c.cells
+abbrev pub is_typed_column : Column → Bool
+is_typed_column c = list_all (is_cell_of c.data_type) c.cells
 
 -- each cell of the column is one of its type
 abbrev pub HoldsItsCells : Column → Type 0
-HoldsItsCells c = IsTrue (holds_its_cells c)
+HoldsItsCells c = IsTrue (is_typed_column c)
