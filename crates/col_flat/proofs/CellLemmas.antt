@@ -7,7 +7,8 @@ use Rattle.std.proofs.lemmas.Bool.{and_parts}
 use Rattle.col_model.specs.Whole.{WholeType, is_fitting}
 use Rattle.col_types.specs.declared.datatypes.physical_type.PrimitiveType.{PrimitiveType}
 use Rattle.col_types.specs.declared.datatypes.physical_type.PrimitiveType.TheVariants as primitive
-use Rattle.col_types.specs.CellOf.{HoldsItsCells, IsCellOf, are_fitting, is_cell_of, physical_fields}
+use Rattle.col_types.specs.CellOf.{HoldsItsCells, IsCellOf, are_fitting, is_cell_of}
+use Rattle.col_types.specs.CellOf.{physical_fields}
 use Rattle.col_types.specs.CellOf.{value_fields}
 use Rattle.col_types.specs.DataKind.{DataKind}
 use Rattle.col_types.specs.DataKind as kind

@@ -1,5 +1,6 @@
 -- Facts on reading a mask by its words.
-use Rattle.std.proofs.Common.{◌≡◌, ℕ, ◌+◌, ◌-◌, ◌/◌, ◌%◌, ◌<◌, suc, zero, Bool, true, List, ◌∷◌, length, get_or, take, drop, ap, ◌∙◌, arith}
+use Rattle.std.proofs.Common.{◌≡◌, ℕ, ◌+◌, ◌-◌, ◌/◌, ◌%◌, ◌<◌, suc, zero, Bool, true, List, ◌∷◌}
+use Rattle.std.proofs.Common.{length, get_or, take, drop, ap, ◌∙◌, arith}
 use Rattle.std.proofs.Math.Seq.{drop-cons}
 use Rattle.col_buf.specs.Bitmap.{number_of}
 use Rattle.col_buf.proofs.NumberLemmas.{halved}

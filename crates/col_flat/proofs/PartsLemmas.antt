@@ -1,5 +1,8 @@
 -- Facts on the slots and cells that stored values and masks stand for.
-use Rattle.std.proofs.Common.{map, ◌≡◌, ◌≢◌, ◌↔◌, ℕ, ◌+◌, ◌<◌, suc, zero, Bool, true, false, cond, List, [], ◌∷◌, ◌++◌, length, get_or, replicate, is_some, unwrap_or, option_map, not, count_by, slice_get, IsTrue, take, drop, Option, Some, None, ℤ, pos, refl, ap, sym, ◌∙◌, arith}
+use Rattle.std.proofs.Common.{map, ◌≡◌, ◌≢◌, ◌↔◌, ℕ, ◌+◌, ◌<◌, suc, zero, Bool, true, false, cond}
+use Rattle.std.proofs.Common.{List, [], ◌∷◌, length, get_or, replicate, is_some, unwrap_or}
+use Rattle.std.proofs.Common.{option_map, not, count_by, slice_get, IsTrue, take, drop, Option}
+use Rattle.std.proofs.Common.{Some, None, ℤ, refl, ap, sym, ◌∙◌, arith}
 use Rattle.std.proofs.lemmas.List.{drop-map, length-map, take-map}
 use Rattle.std.proofs.lemmas.List.Recursion.{is_count_by}
 use Rattle.std.proofs.Math.Seq.{drop-nil, take-nil}
@@ -8,7 +11,9 @@ use Rattle.col_buf.specs.Cut.{cut}
 use Rattle.col_model.specs.Cell.{Cell, null}
 use Rattle.col_types.specs.Column.{row_count}
 use Rattle.col_types.specs.DataKind.{DataKind}
-use Rattle.col_flat.specs.Parts.{PrimitiveParts, HasFlags, IsMaskOf, column_of, cell_of, cut_parts, masked_slots, native_cell, null_count_of, slot_beneath, slot_cell, slots_of, stored_cell, stored_cells, value_cell, zipped_slots}
+use Rattle.col_flat.specs.Parts.{PrimitiveParts, HasFlags, IsMaskOf, column_of, cut_parts}
+use Rattle.col_flat.specs.Parts.{masked_slots, native_cell, null_count_of, slot_beneath, slot_cell}
+use Rattle.col_flat.specs.Parts.{slots_of, value_cell, zipped_slots}
 
 -- as many slots as values
 pub length-masked_slots : (values : List (List ℤ)) (flags : List Bool)
@@ -16,6 +21,11 @@ pub length-masked_slots : (values : List (List ℤ)) (flags : List Bool)
 length-masked_slots [] flags = refl
 length-masked_slots (ns ∷ values) [] = ap suc (length-masked_slots values [])
 length-masked_slots (ns ∷ values) (b ∷ flags) = ap suc (length-masked_slots values flags)
+
+-- as many rows as values
+pub row_count-values : (a : PrimitiveParts) → row_count (column_of a) ≡ length a.values
+row_count-values a =
+    length-map (slots_of a) slot_cell ∙ length-masked_slots a.values (unwrap_or a.validity [])
 
 -- as many rows as values, in an array that is seen as its parts
 pub rows_are : {T : Type 0} (numbers : T → List ℤ) (t : DataKind) (values : List T)
@@ -224,23 +234,6 @@ masked_slots-replicate [] (suc count) h = absurd (omega arith)
 masked_slots-replicate (ns ∷ values) zero h = absurd (omega arith)
 masked_slots-replicate (ns ∷ values) (suc count) h =
     ap (λ (rest : List Cell). null ∷ rest) (masked_slots-replicate values count (omega arith))
-
--- one more number at the end, beneath one more flag
-pub stored_cells-push : (flags : List Bool) (values : List ℤ) (b : Bool) (n : ℤ)
-    → length flags ≡ length values
-    → stored_cells (flags ++ b ∷ []) (values ++ n ∷ [])
-    ≡ stored_cells flags values ++ stored_cell b n ∷ []
-stored_cells-push [] [] b n h = refl
-stored_cells-push [] (y ∷ values) b n h = absurd (omega arith)
-stored_cells-push (x ∷ flags) [] b n h = absurd (omega arith)
-stored_cells-push (x ∷ flags) (y ∷ values) b n h =
-    ap (λ cells. stored_cell x y ∷ cells) (stored_cells-push flags values b n (omega arith))
-
--- a flag and a number made from a slot stand for that slot
-pub stored_cell-slot : (slot : Option ℤ)
-    → stored_cell (is_some slot) (unwrap_or slot (pos 0)) ≡ cell_of slot
-stored_cell-slot None = refl
-stored_cell-slot (Some n) = refl
 
 -- the rows of two lists of values beneath the flags of the valid rows
 rows_valid : (left right : List (List ℤ)) (flags others : List Bool)

@@ -1,5 +1,6 @@
 -- One slot more behind others.
-use Rattle.std.proofs.Common.{◌≡◌, ◌∷◌, ◌++◌, [], Bool, ℤ, List, length, Option, Some, None, is_some, option_map, unwrap_or, refl, ap, arith}
+use Rattle.std.proofs.Common.{◌≡◌, ◌∷◌, ◌++◌, [], Bool, ℤ, List, length, Option, Some, None}
+use Rattle.std.proofs.Common.{is_some, option_map, unwrap_or, refl, ap, arith}
 use Rattle.col_flat.specs.Parts.{masked_slots, slot_beneath}
 
 -- one slot more beneath its flag

@@ -1,10 +1,13 @@
 -- Facts on which slots and rows are valid, as masks tell it.
-use Rattle.std.proofs.Common.{◌≡◌, Bool, true, false, IsTrue, List, [], ◌∷◌, ℤ, length, map, is_some, Option, Some, None, unwrap_or, refl, sym, ap, ◌∙◌, arith}
+use Rattle.std.proofs.Common.{◌≡◌, Bool, true, false, IsTrue, List, [], ◌∷◌, ℤ, length, map}
+use Rattle.std.proofs.Common.{is_some, Option, Some, None, unwrap_or, refl, sym, ap, ◌∙◌, arith}
 use Rattle.std.specs.List.{list_all}
 use Rattle.std.proofs.lemmas.List.{length-map}
 use Rattle.col_buf.specs.Bitmap.{both}
 use Rattle.col_types.specs.Column.{row_count}
-use Rattle.col_flat.specs.Parts.{HasFlags, HaveOneLength, IsMaskOf, PrimitiveParts, column_of, flags_of_both, masked_slots, null_count_of, slot_cell, slots_of, zipped_slots}
+use Rattle.col_flat.specs.Parts.{HasFlags, HaveOneLength, IsMaskOf, PrimitiveParts, column_of}
+use Rattle.col_flat.specs.Parts.{flags_of_both, masked_slots, null_count_of, slot_cell, slots_of}
+use Rattle.col_flat.specs.Parts.{zipped_slots}
 use Rattle.col_flat.proofs.PartsLemmas.{length-masked_slots}
 
 -- without a mask all slots are valid

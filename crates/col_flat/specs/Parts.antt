@@ -1,5 +1,6 @@
 -- The parts that arrays and scalars of native values are made of, and the cells they stand for.
-use Rattle.std.specs.Prelude.{◌≡◌, ℕ, ◌+◌, ℤ, Bool, true, false, List, [], ◌∷◌, length, map, Option, Some, None, option_map, unwrap_or, IsTrue, ⊤}
+use Rattle.std.specs.Prelude.{◌≡◌, ℕ, ◌+◌, ℤ, Bool, true, false, List, [], ◌∷◌, length, map, Option}
+use Rattle.std.specs.Prelude.{Some, None, option_map, unwrap_or, IsTrue, ⊤}
 use Rattle.std.specs.List.{list_all}
 use Rattle.col_buf.specs.Bitmap.{both}
 use Rattle.col_buf.specs.Cut.{cut}
@@ -39,10 +40,6 @@ slot_cell (Some ns) = value_cell ns
 abbrev pub native_cell : {T : Type 0} → (T → List ℤ) → Option T → Cell
 native_cell numbers slot = slot_cell (option_map numbers slot)
 
--- a slot of whole numbers as a cell
-abbrev pub cell_of : Option ℤ → Cell
-cell_of slot = native_cell (λ n. n ∷ []) slot
-
 -- what a flag leaves of a value: beneath a false one there is none
 abbrev pub slot_beneath : Bool → List ℤ → Option (List ℤ)
 slot_beneath true ns = Some ns
@@ -54,14 +51,6 @@ abbrev pub masked_slots : List (List ℤ) → List Bool → List (Option (List �
 masked_slots [] flags = []
 masked_slots (ns ∷ values) [] = Some ns ∷ masked_slots values []
 masked_slots (ns ∷ values) (valid ∷ flags) = slot_beneath valid ns ∷ masked_slots values flags
-
--- a number beneath its flag as a cell
-abbrev pub stored_cell : Bool → ℤ → Cell
-stored_cell valid n = slot_cell (slot_beneath valid (n ∷ []))
-
--- the cells of whole numbers beneath their flags
-abbrev pub stored_cells : List Bool → List ℤ → List Cell
-stored_cells flags values = map slot_cell (masked_slots (map (λ n. n ∷ []) values) flags)
 
 -- an array's slots: without a mask all are valid, and what is stored beneath a null is none of
 -- them: arrays of 7 and 9 and of 7 and 0, both beneath true and false, have the same slots

@@ -1,5 +1,7 @@
 //! Arrays of values of one native type.
-ghost use Rattle.std.specs.Prelude.{◌≡◌, ◌≢◌, ◌+◌, ◌<◌, ◌≤◌, ◌↔◌, IsTrue, IsOk, IfErr, IfOk, Some, is_some, length, map, option_map, replicate, slice_get, unwrap_or, vec_len};
+ghost use Rattle.std.specs.Prelude.{◌≡◌, ◌≢◌, ◌+◌, ◌<◌, ◌≤◌, ◌↔◌, IsTrue, IsOk, IfErr, IfOk, Some};
+ghost use Rattle.std.specs.Prelude.{is_some, length, map, option_map, replicate, slice_get};
+ghost use Rattle.std.specs.Prelude.{unwrap_or, vec_len};
 ghost use Rattle.std.specs.Option.{ForSome, option_copied};
 ghost use Rattle.col_buf.specs.Cut.{IsWithin, cut};
 ghost use Rattle.col_model.specs.Cell.{null};
@@ -8,7 +10,8 @@ ghost use Rattle.col_types.specs.DataKind.{kind_of};
 ghost use Rattle.col_types.specs.DataType.{IsMadeOf, type_error};
 ghost use Rattle.col_types.specs.Answer.{ButForMemory, FailsByMemory, UnlessMemory};
 ghost use Rattle.col_types.specs.Column.{row_count};
-ghost use Rattle.col_flat.specs.Parts.{HasFlags, IsMaskOf, column_of, cut_parts, masked_slots, native_cell, null_count_of, slot_cell, slots_of};
+ghost use Rattle.col_flat.specs.Parts.{HasFlags, IsMaskOf, column_of, cut_parts, masked_slots};
+ghost use Rattle.col_flat.specs.Parts.{native_cell, null_count_of, slot_cell, slots_of};
 
 mod iterator;
 
@@ -54,7 +57,7 @@ impl<T: NativeType> Model for PrimitiveArray<T> {
 
 impl<T: NativeType> PrimitiveArray<T> {
     /// An array of its parts: the values, and a mask that tells for each whether its slot is valid;
-    /// without a mask all slots are. Nothing is copied.
+    /// without a mask all slots are.
     ///
     /// Refused, in this order: `Parameters` where the type's parameters do not fit; `OutOfSpec`
     /// where the type is not carried or not stored as the native type, or where the mask has not
@@ -106,8 +109,8 @@ impl<T: NativeType> PrimitiveArray<T> {
         made.into_array(alloc, data_type)
     }
 
-    /// An array of the values, each of which is valid where its flag is true. No value is copied,
-    /// and where all flags are true no mask is made.
+    /// An array of the values, each of which is valid where its flag is true. Where all flags are
+    /// true no mask is made.
     ///
     /// Refused, in this order: `Parameters` where the type's parameters do not fit; `OutOfSpec`
     /// where the type is not carried or not stored as the native type, or where there are not as
@@ -175,11 +178,10 @@ impl<T: NativeType> PrimitiveArray<T> {
         ensures value { slice_get (column_of self.now).cells i
             ≡ Some (native_cell T.numbers result) }
     {
-        if self.is_valid(i) {
-            Some(self.values.as_slice()[i])
-        } else {
-            None
+        if !self.is_valid(i) {
+            return None;
         }
+        Some(self.values.as_slice()[i])
     }
 
     /// The slots, in their order.
@@ -241,7 +243,7 @@ impl<T: NativeType> PrimitiveArray<T> {
         self.validity.as_ref()
     }
 
-    /// The `length` slots from the row `offset` on. Nothing is copied or moved.
+    /// The `length` slots from the row `offset` on, of the same buffers.
     pub fn sliced(self, offset: usize, length: usize) -> Self
         requires { offset + length ≤ row_count (column_of self) }
         ensures parts { result ≡ cut_parts self offset length }

@@ -1,11 +1,13 @@
 //! The slots of arrays, row by row.
-ghost use Rattle.std.specs.Prelude.{[], ◌≡◌, ◌-◌, ◌%◌, ◌<◌, ◌≤◌, ◌^◌, Some, drop, is_some, length, map, option_map, slice_index_or, take, unwrap_or, true};
+ghost use Rattle.std.specs.Prelude.{[], ◌≡◌, ◌-◌, ◌%◌, ◌<◌, ◌≤◌, ◌^◌, Some, drop, is_some, length};
+ghost use Rattle.std.specs.Prelude.{map, option_map, slice_index_or, take, unwrap_or, true};
 ghost use Rattle.std.specs.Iterator.{YieldsFirstBy, item_count};
 ghost use Rattle.std.specs.Option.{ForSome, option_copied};
 ghost use Rattle.col_buf.specs.Bitmap.{number_of};
 ghost use Rattle.col_flat.specs.Flags.{IsReading};
 ghost use Rattle.col_types.specs.Column.{row_count};
-ghost use Rattle.col_flat.specs.Parts.{HasFlags, IsMaskOf, column_of, masked_slots, pair_numbers, slot_pairs, zipped_slots};
+ghost use Rattle.col_flat.specs.Parts.{HasFlags, IsMaskOf, column_of, masked_slots, pair_numbers};
+ghost use Rattle.col_flat.specs.Parts.{slot_pairs, zipped_slots};
 
 use crate::primitive::PrimitiveArray;
 use col_buf::Bitmap;
