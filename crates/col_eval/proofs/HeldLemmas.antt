@@ -8,7 +8,7 @@ use Rattle.std.proofs.lemmas.Bool.{and_parts}
 use Rattle.col_model.specs.Cell.{Cell, null, whole, Cause}
 use Rattle.col_model.specs.Whole.{WholeType, is_fitting}
 use Rattle.col_model.specs.WholeStep.{formed, whole_step}
-use Rattle.col_types.specs.CellOf.{HoldsItsCells, holds_its_cells, is_cell_of}
+use Rattle.col_types.specs.CellOf.{HoldsItsCells, is_typed_column, is_cell_of}
 use Rattle.col_types.specs.Column.{Column, row_at, table_row_count, types_of}
 use Rattle.col_types.specs.DataKind.{DataKind}
 use Rattle.col_types.specs.DataKind as kind
@@ -94,16 +94,16 @@ held_cell t (c ∷ cells) (suc row) h =
 
 -- a row's cell of the column at a position
 column_cell : (table : List Column) (position row : ℕ) (t : DataKind)
-    → list_all holds_its_cells table ≡ true → slice_get (types_of table) position ≡ Some t
+    → list_all is_typed_column table ≡ true → slice_get (types_of table) position ≡ Some t
     → is_cell_of t (slice_index_or (row_at table row) position null) ≡ true
 column_cell [] position row t h g = absurd cc
 column_cell (c ∷ table) zero row t h g =
     let same : c.data_type ≡ t = cc in
     rw (← same) (held_cell c.data_type c.cells row
-    (and_parts (holds_its_cells c) (list_all holds_its_cells table) h).0)
+    (and_parts (is_typed_column c) (list_all is_typed_column table) h).0)
 column_cell (c ∷ table) (suc position) row t h g =
     column_cell table position row t
-    (and_parts (holds_its_cells c) (list_all holds_its_cells table) h).1 g
+    (and_parts (is_typed_column c) (list_all is_typed_column table) h).1 g
 
 -- what is there has its value
 value_there : (o : Option DataKind) (e : Error) (t : DataKind) → ok_or o e ≡ Ok t → o ≡ Some t
@@ -112,7 +112,7 @@ value_there None e t h = absurd cc
 
 -- the cell that a tree with a type gives for a row
 row_cell : (tree : Tree) (table : List Column) (row : ℕ) (t : DataKind) (c : Cell)
-    → list_all holds_its_cells table ≡ true → type_of tree (types_of table) ≡ Ok t
+    → list_all is_typed_column table ≡ true → type_of tree (types_of table) ≡ Ok t
     → row_meaning tree (types_of table) (row_at table row) ≡ cell c → is_cell_of t c ≡ true
 row_cell (column position) table row t c held typed h =
     let same : slice_index_or (row_at table row) position null ≡ c = cc in
@@ -148,7 +148,7 @@ type_within false typed t h = h
 
 -- what a tree gives holds cells of its type
 pub outcome_holds : (tree : Tree) (table : List Column) (answer : Column)
-    → IsTrue (list_all holds_its_cells table) → outcome_of tree table ≡ Ok answer
+    → IsTrue (list_all is_typed_column table) → outcome_of tree table ≡ Ok answer
     → HoldsItsCells answer
 outcome_holds tree table answer held h =
     let types = types_of table in

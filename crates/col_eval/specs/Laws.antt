@@ -3,7 +3,7 @@ use Rattle.std.specs.Prelude.{◌≡◌, ℕ, ◌<◌, ◌≤◌, ◌⊎◌, IsT
 use Rattle.std.specs.Prelude.{slice_get, Some, Ok, Err}
 use Rattle.std.specs.List.{All, list_all}
 use Rattle.col_model.specs.Cell.{Cell, Cause}
-use Rattle.col_types.specs.CellOf.{HoldsItsCells, holds_its_cells}
+use Rattle.col_types.specs.CellOf.{HoldsItsCells, is_typed_column}
 use Rattle.col_types.specs.Column.{Column, row_at, table_row_count, types_of}
 use Rattle.col_types.specs.DataKind.{DataKind}
 use Rattle.col_eval.specs.declared.expr.Op.{Op}
@@ -93,5 +93,5 @@ RefusalNamesItsStep =
 abbrev pub OutcomeHoldsItsCells : Type 0
 OutcomeHoldsItsCells =
     (tree : Tree) (table : List Column) (answer : Column)
-    → IsTrue (list_all holds_its_cells table) → outcome_of tree table ≡ Ok answer
+    → IsTrue (list_all is_typed_column table) → outcome_of tree table ≡ Ok answer
     → HoldsItsCells answer
