@@ -13,7 +13,7 @@ use Rattle.col_document.specs.Document.{cell_read, literal_read, piece_read, pos
 use Rattle.col_document.specs.Document.{step_named, type_read, word_read}
 use Rattle.col_document.specs.Json.{◌>>=◌, each}
 use Rattle.col_document.specs.Laws.{HaveLeaves, spelling}
-use Rattle.col_document.proofs.Lists.{bind_some, joined_some}
+use Rattle.col_document.proofs.Lists.{bind_some, option_cons-some}
 use Rattle.col_document.proofs.Spelling.{spelling-of_tree, tree-of_spelling}
 
 -- an item that is a leaf has one level
@@ -70,7 +70,7 @@ pub leaves-read : (items : Items) (pieces : List Piece) → each piece_read item
     → HaveLeaves pieces
 leaves-read no_items pieces e = subst HaveLeaves (same_Some [] pieces e) tt
 leaves-read (item d ds) pieces e =
-    let p = joined_some (piece_read d) (each piece_read ds) pieces e in
+    let p = option_cons-some (piece_read d) (each piece_read ds) pieces e in
     subst HaveLeaves p.4 (leaves-more p.0 p.1 (piece-plain d p.0 p.2) (leaves-read ds p.1 p.3))
 
 -- a list of items is read as a tree exactly where they are its spelling

@@ -4,4 +4,3 @@ pub mod NumberTexts
 pub mod PositionNames
 pub mod Readings
 pub mod Spelling
-pub mod StoredCells

@@ -1,7 +1,8 @@
 -- What is read of the items of a list, one after another.
 use Rattle.std.proofs.Common.{◌≡◌, List, ◌∷◌, ◌++◌, Option, Some, None, refl}
 use Rattle.std.proofs.lemmas.Option.{none-some, same_Some}
-use Rattle.col_document.specs.Json.{◌>>=◌, joined}
+use Rattle.col_model.specs.Whole.{option_cons}
+use Rattle.col_document.specs.Json.{◌>>=◌}
 
 -- what is done, in front of what the rest gives
 abbrev pub front : {Y : Type 0} → List Y → Option (List Y) → Option (List Y)
@@ -14,10 +15,10 @@ pub bind_some : {X Y : Type 0} (f : X → Option Y) (o : Option X) (y : Y) → (
 bind_some f None y e = absurd (none-some y e)
 bind_some f (Some x) y e = (x, refl, e)
 
--- a list that was joined has a first item and a rest
-pub joined_some : {Y : Type 0} (o : Option Y) (rest : Option (List Y)) (ys : List Y)
-    → joined o rest ≡ Some ys → (y : Y) × (zs : List Y) × (o ≡ Some y) × (rest ≡ Some zs)
+-- a list that is there has a first item and a rest
+pub option_cons-some : {Y : Type 0} (o : Option Y) (rest : Option (List Y)) (ys : List Y)
+    → option_cons o rest ≡ Some ys → (y : Y) × (zs : List Y) × (o ≡ Some y) × (rest ≡ Some zs)
     × (y ∷ zs ≡ ys)
-joined_some None rest ys e = absurd (none-some ys e)
-joined_some (Some y) None ys e = absurd (none-some ys e)
-joined_some (Some y) (Some zs) ys e = (y, zs, refl, refl, same_Some _ _ e)
+option_cons-some None rest ys e = absurd (none-some ys e)
+option_cons-some (Some y) None ys e = absurd (none-some ys e)
+option_cons-some (Some y) (Some zs) ys e = (y, zs, refl, refl, same_Some _ _ e)

@@ -8,62 +8,45 @@ use Rattle.std.proofs.lemmas.Option.{same_Some}
 use Rattle.serde_json.specs.Data.{Data, Items, no_items, item}
 use Rattle.serde_json.specs.Find.{get, as_array}
 use Rattle.serde_json.specs.Read.{read}
+use Rattle.col_model.specs.Cell.{Cell}
 use Rattle.col_types.specs.Column.{Column, is_table}
+use Rattle.col_types.specs.DataKind.{int64}
 use Rattle.col_eval.specs.Tree.{Tree}
 use Rattle.col_document.specs.declared.document.ReadError.{ReadError}
 use Rattle.col_document.specs.declared.document.ReadError.TheVariants.{Memory, Malformed}
 use Rattle.col_document.specs.Document.{DocumentView, column_read, document_of, document_read}
-use Rattle.col_document.specs.Document.{tree_read}
+use Rattle.col_document.specs.Document.{int64_read, tree_read, type_read}
 use Rattle.col_document.specs.Json.{◌>>=◌, each, item_count}
-use Rattle.col_document.proofs.Lists.{joined_some}
-use Rattle.col_document.specs.Reading.{ButForMemory, Reads, UnlessMemory, only_table}
+use Rattle.col_document.proofs.Lists.{option_cons-some}
+use Rattle.col_document.specs.Reading.{IsUnread, Reads, only_table}
 
 -- ---- answers
 
--- a fact that follows, but for want of memory
-pub UnlessMemory-weaker : {P Q : Type 0} (e : ReadError) → (P → Q) → UnlessMemory e P
-    → UnlessMemory e Q
-UnlessMemory-weaker Memory f h = tt
-UnlessMemory-weaker Malformed f h = f h
-
 -- nothing is read under a function where nothing is read
 pub none-mapped : {X Y : Type 0} (f : X → Y) (e : ReadError) (a : Option X) (b : Option Y)
-    → b ≡ option_map f a → UnlessMemory e (a ≡ None) → UnlessMemory e (b ≡ None)
+    → b ≡ option_map f a → IsUnread e a → IsUnread e b
 none-mapped f Memory a b same h = tt
 none-mapped f Malformed a b same h = same ∙ ap (option_map f) h
+
+-- nothing is read where that follows of `Malformed`
+pub unread-where : {Y : Type 0} (e : ReadError) (wanted : Option Y)
+    → (e ≡ Malformed → wanted ≡ None) → IsUnread e wanted
+unread-where Memory wanted h = tt
+unread-where Malformed wanted h = h refl
 
 -- the same answer of what is read alike
 pub Reads-same : {X Y : Type 0} (view : X → Y) (r : Result X ReadError) (a b : Option Y) → a ≡ b
     → Reads view r b → Reads view r a
 Reads-same view r a b e h = rw e h
 
--- what was read is the value
-pub value-from_Reads : {X Y : Type 0} (view : X → Y) (r : Result X ReadError) (wanted : Option Y)
-    → Reads view r wanted → IfOk r (λ x. wanted ≡ Some (view x))
-value-from_Reads view (Ok x) wanted h = h
-value-from_Reads view (Err e) wanted h = tt
-
--- it is malformed exactly where nothing is read
-pub malformed-from_Reads : {X Y : Type 0} (view : X → Y) (r : Result X ReadError)
-    (wanted : Option Y) → Reads view r wanted
-    → ButForMemory r ((r ≡ Err Malformed) ↔ (wanted ≡ None))
-malformed-from_Reads view (Ok x) wanted h = (λ e. cc, λ e. cc)
-malformed-from_Reads view (Err Memory) wanted h = tt
-malformed-from_Reads view (Err Malformed) wanted h = (λ e. h, λ e. refl)
-
 -- ---- documents
-
--- our reading on is std's
-bind_is : {X Y : Type 0} (f : X → Option Y) (o : Option X) → (o >>= f) ≡ option_and_then f o
-bind_is f None = refl
-bind_is f (Some x) = refl
 
 -- as many are read as there are items
 pub length-each : {Y : Type 0} (f : Data → Option Y) (ds : Items) (ys : List Y)
     → each f ds ≡ Some ys → length ys ≡ item_count ds
 length-each f no_items ys e = sym (ap length (same_Some _ _ e))
 length-each f (item d ds) ys e =
-    let p = joined_some (f d) (each f ds) ys e in
+    let p = option_cons-some (f d) (each f ds) ys e in
     sym (ap length p.4) ∙ ap suc (length-each f ds p.1 p.3)
 
 -- a value where a test holds, under a function
@@ -71,6 +54,13 @@ option_map-tested : {X Y : Type 0} (f : X → Y) (b : Bool) (x : X)
     → cond b (Some (f x)) None ≡ option_map f (cond b (Some x) None)
 option_map-tested f true x = refl
 option_map-tested f false x = refl
+
+-- a column of numbers of 64 bits whose cells are read
+pub column_read-int64 : (d : Data) (items : Items) (cells : List Cell) → type_read d ≡ Some int64
+    → Some items ≡ option_and_then as_array (get (codes "values") d)
+    → each int64_read items ≡ Some cells
+    → column_read d ≡ Some (record { data_type = int64; cells = cells })
+column_read-int64 d items cells named listed read = rw (named, ← listed, read) refl
 
 -- a document of columns and trees that are read
 pub document_read-parts : (d : Data) (column_items tree_items : Items) (columns : List Column)
@@ -80,10 +70,7 @@ pub document_read-parts : (d : Data) (column_items tree_items : Items) (columns 
     → document_read d ≡ option_map (λ table. record { table = table; trees = trees })
     (only_table columns)
 document_read-parts d column_items tree_items columns trees c t cs ts =
-    let c' : (get (codes "columns") d >>= as_array) ≡ Some column_items = bind_is as_array _
-    ∙ sym c in
-    let t' : (get (codes "trees") d >>= as_array) ≡ Some tree_items = bind_is as_array _ ∙ sym t in
-    rw (c', t', cs, ts, length-each column_read column_items columns cs)
+    rw (← c, ← t, cs, ts, length-each column_read column_items columns cs)
     (option_map-tested
     (λ (table : List Column). let v : DocumentView = record { table = table; trees = trees } in v)
     (nat_lt (item_count column_items) (2 ^ 32) && is_table columns) columns)

@@ -9,15 +9,10 @@ use Rattle.col_eval.specs.Typing.{max_levels}
 use Rattle.col_eval.specs.declared.expr.Op.{Op}
 use Rattle.col_document.specs.Document.{Piece, leaf, named, only_tree, with_piece, with_pieces}
 use Rattle.col_document.specs.Document.{with_step}
+use Rattle.col_eval.proofs.TreeLemmas.{level_count-positive}
 use Rattle.col_document.specs.Json.{◌>>=◌}
 use Rattle.col_document.proofs.Lists.{bind_some}
 use Rattle.col_document.specs.Laws.{HaveLeaves, spelling}
-
--- each tree has a level
-level_count-positive : (t : Tree) → 0 < level_count t
-level_count-positive (column position) = omega arith
-level_count-positive (literal t c) = omega arith
-level_count-positive (step op left right) = omega arith
 
 -- a tree of one level is its own spelling
 spelling-leaf : (t : Tree) → level_count t ≡ 1 → spelling t ≡ leaf t ∷ []

@@ -13,20 +13,16 @@ use Rattle.col_document.specs.declared.pieces.Piece as code
 use Rattle.col_document.specs.declared.pieces.Piece.TheVariants as code_piece
 use Rattle.col_document.specs.Document.{Piece, leaf, named}
 
--- the fact, for each error but want of memory: that one is free
-abbrev pub UnlessMemory : ReadError → Type 0 → Type 0
-UnlessMemory Memory fact = ⊤
-UnlessMemory Malformed fact = fact
+-- nothing is read where the refusal is `Malformed`; want of memory says nothing
+abbrev pub IsUnread : {Y : Type 0} → ReadError → Option Y → Type 0
+IsUnread Memory wanted = ⊤
+IsUnread Malformed wanted = wanted ≡ None
 
--- the fact, but for want of memory
-abbrev pub ButForMemory : {X : Type 0} → Result X ReadError → Type 0 → Type 0
-ButForMemory (Ok x) fact = fact
-ButForMemory (Err e) fact = UnlessMemory e fact
-
--- the answer is what is read, seen by a view, or malformed where nothing is, but for want of memory
+-- the answer is what is read, seen by a view; it is malformed exactly where nothing is, but for want
+-- of memory
 abbrev pub Reads : {X Y : Type 0} → (X → Y) → Result X ReadError → Option Y → Type 0
 Reads view (Ok x) wanted = wanted ≡ Some (view x)
-Reads view (Err e) wanted = UnlessMemory e (wanted ≡ None)
+Reads view (Err e) wanted = IsUnread e wanted
 
 -- the item that a piece is
 abbrev pub piece_view : code.Piece → Piece

@@ -1,21 +1,19 @@
 //! Cells and columns of a document.
-ghost use Rattle.std.specs.Prelude.{◌≡◌, IfOk, IfSome, map, option_and_then, option_map, vec_len};
+ghost use Rattle.std.specs.Prelude.{◌≡◌, IfSome, map, option_and_then, option_map};
 ghost use Rattle.serde_json.specs.Find.{as_array, get};
 ghost use Rattle.serde_json.specs.View.{items_view, view};
-ghost use Rattle.col_types.specs.DataKind.{kind_of};
-ghost use Rattle.col_types.specs.DataType.{IsMadeOf};
-ghost use Rattle.col_types.specs.declared.datatypes.physical_type.PrimitiveType.TheVariants.{Int64};
+ghost use Rattle.col_types.specs.DataKind.{int64, kind_of};
 ghost use Rattle.col_array.specs.Any.{any_column};
-ghost use Rattle.col_flat.specs.Parts.{cell_of, stored_cells};
-ghost use Rattle.col_document.specs.Document.{cell_read, column_read, type_read};
+ghost use Rattle.col_flat.specs.Parts.{native_cell, slot_cell};
+ghost use Rattle.col_document.specs.Document.{column_read, int64_read, type_read};
 ghost use Rattle.col_document.specs.Json.{each};
 ghost use Rattle.col_document.specs.Reading.{Reads};
 
 use crate::document::ReadError;
 use crate::texts::{read_number, read_type_name};
 use col_array::AnyArray;
-use col_flat::PrimitiveArray;
-use col_types::{DataType, Error};
+use col_flat::MutablePrimitiveArray;
+use col_types::{DataType, Error, NativeType};
 use serde_json::Value;
 use std::alloc::Global;
 use std::mem;
@@ -48,23 +46,21 @@ pub fn take_list(alloc: Global, value: &mut Value, name: &str) -> Option<Vec<Val
 /// The type that the member `type` names.
 pub fn read_type(value: &Value) -> Option<DataType>
     ensures value { option_map kind_of result ≡ type_read (view value.now) }
-    ensures made { IfSome result (λ data_type. IsMadeOf (kind_of data_type) Int64) }
+    ensures made { IfSome result (λ data_type. kind_of data_type ≡ int64) }
 {
     read_type_name(value.get("type")?.as_str()?)
 }
 
-/// A cell of a type, as a slot: null, a whole number that fits, or a text that spells one.
+/// A cell of 64 bits, as a slot: null, a whole number that fits, or a text that spells one.
 #[inline(always)]
-pub fn read_slot(data_type: &DataType, value: &Value) -> Option<Option<i64>>
-    ensures { option_map cell_of result ≡ cell_read (kind_of data_type.now) (view value.now) }
+pub fn read_int64(value: &Value) -> Option<Option<i64>>
+    ensures { option_map (native_cell ⟦<i64 as NativeType>⟧.numbers) result
+        ≡ int64_read (view value.now) }
 {
-    match data_type {
-        DataType::Int64 => match value {
-            Value::Null => Some(None),
-            Value::Number(number) => number.as_i64().map(Some),
-            Value::String(text) => read_number(text.as_str()).map(Some),
-            _ => None,
-        },
+    match value {
+        Value::Null => Some(None),
+        Value::Number(number) => number.as_i64().map(Some),
+        Value::String(text) => read_number(text.as_str()).map(Some),
         _ => None,
     }
 }
@@ -81,8 +77,8 @@ pub fn read_column(alloc: Global, mut value: Value) -> Result<AnyArray, ReadErro
     let Some(values) = take_list(alloc, &mut value, "values") else {
         return Err(ReadError::Malformed);
     };
-    let (numbers, validity) = read_stored(alloc, &data_type, values)?;
-    match PrimitiveArray::from_flags(alloc, data_type, numbers, validity.as_slice()) {
+    let slots = read_int64s(alloc, values)?;
+    match slots.into_array(alloc, data_type) {
         Ok(array) => Ok(AnyArray::Int64(array)),
         Err(Error::Memory) => Err(ReadError::Memory),
         Err(_) => Err(ReadError::Malformed),
@@ -103,24 +99,20 @@ pub fn read_columns(alloc: Global, values: Vec<Value>) -> Result<Vec<AnyArray>, 
     Ok(columns)
 }
 
-// The cells of a list, in its order, as stored numbers and flags.
-fn read_stored(
-    alloc: Global,
-    data_type: &DataType,
-    values: Vec<Value>,
-) -> Result<(Vec<i64>, Vec<bool>), ReadError>
-    ensures cells { Reads (λ parts. stored_cells parts.1.items parts.0.items) result
-        (each (cell_read (kind_of data_type.now)) (items_view values.items)) }
-    ensures one_length { IfOk result (λ parts. vec_len parts.0 ≡ vec_len parts.1) }
+// The cells of 64 bits of a list, in its order, as slots.
+fn read_int64s(alloc: Global, values: Vec<Value>) -> Result<MutablePrimitiveArray<i64>, ReadError>
+    ensures { Reads (map slot_cell) result (each int64_read (items_view values.items)) }
 {
-    let mut numbers = Vec::with_capacity(alloc, values.len())?;
-    let mut validity = Vec::with_capacity(alloc, values.len())?;
+    let Ok(mut slots) = MutablePrimitiveArray::with_capacity(alloc, values.len()) else {
+        return Err(ReadError::Memory);
+    };
     for value in values {
-        let Some(slot) = read_slot(data_type, &value) else {
+        let Some(slot) = read_int64(&value) else {
             return Err(ReadError::Malformed);
         };
-        numbers.push(slot.unwrap_or(0))?;
-        validity.push(slot.is_some())?;
+        let Ok(()) = slots.push(slot) else {
+            return Err(ReadError::Memory);
+        };
     }
-    Ok((numbers, validity))
+    Ok(slots)
 }

@@ -6,7 +6,7 @@ ghost use Rattle.col_array.specs.Any.{any_column};
 ghost use Rattle.col_eval.specs.Tree.{tree_of};
 ghost use Rattle.col_document.specs.declared.document.ReadError.TheVariants.{Malformed, Memory};
 ghost use Rattle.col_document.specs.Document.{document_of, document_read};
-ghost use Rattle.col_document.specs.Reading.{ButForMemory, Reads, UnlessMemory, only_table};
+ghost use Rattle.col_document.specs.Reading.{Reads, only_table};
 ghost use Rattle.col_document.specs.View.{document_view};
 
 use crate::cells::{list_at, read_columns, take_list};
@@ -15,12 +15,27 @@ use col_array::AnyArray;
 use col_eval::{Expr, Table};
 use serde_json::Value;
 use std::alloc::{AllocError, AllocFailed, Global};
+use std::marker::Model;
 
 /// A table, and trees over its columns.
 #[derive(Drop)]
 pub struct Document {
     table: Table,
     trees: Vec<Expr>,
+}
+
+impl Model for Document {
+    ghost use Rattle.std.specs.Coded.{codes};
+    ghost use Rattle.col_model.proofs.CellCode.{cell_code};
+    ghost use Rattle.col_types.proofs.KindCode.{kind_code};
+    ghost use Rattle.col_eval.specs.contracts.expr.Expr as contract;
+    ghost use Rattle.col_document.specs.View.{DocumentParts};
+
+    ghost Value = { DocumentParts };
+
+    ghost coded = { Prim.hlevel (codes, kind_code, cell_code, contract.the_row.coded) };
+
+    ghost view = { λ d. record { table = d.table; trees = d.trees.items } };
 }
 
 /// Why no document was read.
@@ -34,11 +49,9 @@ pub enum ReadError {
 
 /// The document that some bytes hold.
 ///
-/// Refused: `Malformed` where they hold none.
+/// Refused: `Malformed` exactly where they hold none.
 pub fn read_document(alloc: Global, bytes: &[u8]) -> Result<Document, ReadError>
-    ensures value { IfOk result (λ d. document_of bytes.now ≡ Some (document_view d)) }
-    ensures malformed { ButForMemory result
-        ((result ≡ Err Malformed) ↔ (document_of bytes.now ≡ None)) }
+    ensures { Reads document_view result (document_of bytes.now) }
 {
     match Value::from_slice(alloc, bytes) {
         Ok(value) => read_value(alloc, value),
@@ -88,7 +101,7 @@ impl<T: Drop> From<AllocFailed<T>> for ReadError {
 
 // Why a text was not read as a JSON value.
 fn refusal(error: &serde_json::Error) -> ReadError
-    ensures { UnlessMemory result (¬ (IsMemory error.now)) }
+    ensures { result ≡ Malformed → ¬ (IsMemory error.now) }
 {
     if error.is_memory() {
         ReadError::Memory

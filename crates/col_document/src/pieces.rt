@@ -4,7 +4,7 @@ ghost use Rattle.serde_json.specs.View.{view};
 ghost use Rattle.col_document.specs.Document.{literal_read, piece_read, word_read};
 ghost use Rattle.col_document.specs.Reading.{piece_view};
 
-use crate::cells::{read_slot, read_type};
+use crate::cells::{read_int64, read_type};
 use crate::texts::{read_position, read_step};
 use col_array::AnyScalar;
 use col_eval::Op;
@@ -51,7 +51,7 @@ fn read_literal(value: &Value) -> Option<Piece>
     ensures { option_map piece_view result ≡ literal_read (view value.now) }
 {
     let data_type = read_type(value)?;
-    let slot = read_slot(&data_type, value.get("value")?)?;
+    let slot = read_int64(value.get("value")?)?;
     if value.get("cast").is_some() {
         return None;
     }

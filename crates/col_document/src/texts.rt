@@ -5,9 +5,7 @@ ghost use Rattle.std.specs.Prelude.{slice_index};
 ghost use Rattle.std.specs.Str.Parse.{digits_value};
 ghost use Rattle.std.specs.Int.{w64};
 ghost use Rattle.col_model.specs.Whole.{signed};
-ghost use Rattle.col_types.specs.DataKind.{kind_of};
-ghost use Rattle.col_types.specs.DataType.{IsMadeOf};
-ghost use Rattle.col_types.specs.declared.datatypes.physical_type.PrimitiveType.TheVariants.{Int64};
+ghost use Rattle.col_types.specs.DataKind.{int64, kind_of};
 ghost use Rattle.col_document.specs.Document.{is_shortest, number_read, position_named};
 ghost use Rattle.col_document.specs.Document.{step_named, type_named};
 
@@ -46,7 +44,7 @@ pub fn read_step(text: &str) -> Option<Op>
 /// The type of a name.
 pub fn read_type_name(text: &str) -> Option<DataType>
     ensures value { option_map kind_of result ≡ type_named text.now }
-    ensures made { IfSome result (λ data_type. IsMadeOf (kind_of data_type) Int64) }
+    ensures made { IfSome result (λ data_type. kind_of data_type ≡ int64) }
 {
     match text {
         "Int64" => Some(DataType::Int64),

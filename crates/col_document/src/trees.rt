@@ -9,12 +9,10 @@ ghost use Rattle.col_document.specs.Reading.{Reads, bounded_step, piece_view, tr
 
 use crate::document::ReadError;
 use crate::pieces::{Piece, read_piece};
-use col_eval::{Expr, Op};
+use col_eval::{Expr, MAX_LEVELS, Op};
 use serde_json::Value;
 use std::alloc::Global;
 use std::marker::Model;
-
-const MAX_LEVELS: usize = 256;
 
 // A tree and its number of levels: at most 256, so that no recursion over it is deep.
 #[derive(Drop)]
