@@ -1,12 +1,12 @@
 -- Texts of cells and lines, one after another.
-use Rattle.std.proofs.Common.{◌≡◌, ℕ, ◌+◌, suc, zero, Bool, ◌||◌, List, [], ◌∷◌, ◌++◌, map, take}
+use Rattle.std.proofs.Common.{◌≡◌, ℕ, ◌+◌, suc, zero, Bool, true, false, ◌||◌, List, [], ◌∷◌, ◌++◌, map, take}
 use Rattle.std.proofs.Common.{slice_get, Some, refl, ap, sym, ◌∙◌, add-one, append_assoc}
 use Rattle.std.specs.List.{join_with_byte, flat_map, list_any}
 use Rattle.std.proofs.lemmas.List.{append-nil, map-append}
 use Rattle.std.proofs.lemmas.Grind.{flat_map-append}
 use Rattle.std.proofs.lemmas.List.Recursion.{or_push}
 use Rattle.col_model.specs.Cell.{Cell}
-use Rattle.col_page.specs.Page.{cell_text, comma_before}
+use Rattle.col_page.specs.Page.{cell_text, cells_text, comma_unless, rest_text}
 
 -- the front of a list, with what stands next
 take_suc-next : {X : Type 0} (xs : List X) (i : ℕ) (x : X) → slice_get xs i ≡ Some x
@@ -19,43 +19,39 @@ take-next : {X : Type 0} (xs : List X) (i : ℕ) (x : X) → slice_get xs i ≡ 
     → take (i + 1) xs ≡ take i xs ++ x ∷ []
 take-next xs i x h = rw add-one (take_suc-next xs i x h)
 
--- a comma, behind pieces that are there
-behind_pieces : List (List ℕ) → List ℕ
-behind_pieces [] = []
-behind_pieces (p ∷ pieces) = 44 ∷ []
+-- the cells that are left behind others, and all of them joined
+join-rest : (c : Cell) (cells : List Cell)
+    → join_with_byte 44 (map cell_text (c ∷ cells)) ≡ cell_text c ++ rest_text false cells
+join-rest c [] = sym (append-nil (cell_text c))
+join-rest c (d ∷ cells) =
+    ap (λ (rest : List ℕ). cell_text c ++ (44 ∷ rest)) (join-rest d cells)
 
-join-push : (pieces : List (List ℕ)) (p : List ℕ)
-    → join_with_byte 44 (pieces ++ p ∷ []) ≡ join_with_byte 44 pieces ++ (behind_pieces pieces ++ p)
-unfolding behind_pieces
-join-push [] p = refl
-join-push (x ∷ []) p = refl
-join-push (x ∷ y ∷ pieces) p =
-    ap (λ (rest : List ℕ). x ++ (44 ∷ rest)) (join-push (y ∷ pieces) p) ∙ sym
-    (append_assoc x (44 ∷ join_with_byte 44 (y ∷ pieces)) (44 ∷ p))
+-- all cells, none of which stands behind another, joined
+pub rest-first : (cells : List Cell)
+    → rest_text true cells ≡ join_with_byte 44 (map cell_text cells)
+rest-first [] = refl
+rest-first (c ∷ cells) = sym (join-rest c cells)
 
-behind_pieces-take : (cells : List Cell) (row : ℕ) (c : Cell) → slice_get cells row ≡ Some c
-    → behind_pieces (map cell_text (take row cells)) ≡ comma_before row
-unfolding behind_pieces
-behind_pieces-take [] row c h = cc
-behind_pieces-take (d ∷ cells) zero c h = refl
-behind_pieces-take (d ∷ cells) (suc row) c h = refl
+-- one more cell behind a text: what is left behind both is what was left
+pub rest-next : (start text after : List ℕ) (is_first : Bool) (c : Cell) (all before rest : List Cell)
+    → before ≡ c ∷ rest → text ++ rest_text is_first before ≡ start ++ rest_text true all
+    → after ≡ text ++ (comma_unless is_first ++ cell_text c)
+    → after ++ rest_text false rest ≡ start ++ rest_text true all
+rest-next start text after is_first c all before rest is done added =
+    let whole = rw is at done in
+    rw added (append_assoc text (comma_unless is_first ++ cell_text c) (rest_text false rest)
+    ∙ ap (λ (t : List ℕ). text ++ t)
+    (append_assoc (comma_unless is_first) (cell_text c) (rest_text false rest)) ∙ whole)
 
-joined-next : (cells : List Cell) (row : ℕ) (c : Cell) → slice_get cells row ≡ Some c
-    → join_with_byte 44 (map cell_text (take (row + 1) cells)) ≡ join_with_byte 44
-    (map cell_text (take row cells)) ++ (comma_before row ++ cell_text c)
-joined-next cells row c h =
-    rw (take-next cells row c h, map-append, join-push, behind_pieces-take cells row c h) refl
-
--- one more cell behind a text that ends with the cells before it
-pub cells-next : (start before after : List ℕ) (cells : List Cell) (row : ℕ) (c : Cell)
-    → slice_get cells row ≡ Some c
-    → before ≡ start ++ join_with_byte 44 (map cell_text (take row cells))
-    → after ≡ before ++ (comma_before row ++ cell_text c)
-    → after ≡ start ++ join_with_byte 44 (map cell_text (take (row + 1) cells))
-cells-next start before after cells row c h b a =
-    a ∙ rw (b, joined-next cells row c h)
-    (append_assoc start (join_with_byte 44 (map cell_text (take row cells)))
-    (comma_before row ++ cell_text c))
+-- no cells are left, and the bracket is closed
+pub cells-end : (old start text after : List ℕ) (is_first : Bool) (cells left : List Cell)
+    → left ≡ [] → start ≡ old ++ 91 ∷ []
+    → text ++ rest_text is_first left ≡ start ++ rest_text true cells
+    → after ≡ text ++ 93 ∷ [] → after ≡ old ++ cells_text cells
+cells-end old start text after is_first cells left none begun done ended =
+    let whole : text ≡ (old ++ 91 ∷ []) ++ join_with_byte 44 (map cell_text cells) =
+    sym (append-nil text) ∙ (rw none at done) ∙ rw (begun, rest-first cells) refl in
+    ended ∙ rw whole (simp append_assoc)
 
 -- one more line
 pub flat_map-next : {X : Type 0} (f : X → List ℕ) (xs : List X) (i : ℕ) (x : X)

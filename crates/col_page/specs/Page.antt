@@ -1,5 +1,5 @@
 -- Pages: a line for each tree of a document.
-use Rattle.std.specs.Prelude.{◌≡◌, ℕ, zero, suc, Bool, true, false, List, [], ◌++◌, map, codes}
+use Rattle.std.specs.Prelude.{◌≡◌, ℕ, Bool, true, false, List, [], ◌∷◌, ◌++◌, map, codes}
 use Rattle.std.specs.Prelude.{is_err, Result, Ok, Err}
 use Rattle.std.specs.Fmt.{signed_decimal}
 use Rattle.std.specs.List.{flat_map, join_with_byte, list_any}
@@ -27,10 +27,16 @@ cell_text _ = []
 abbrev pub cells_text : List Cell → List ℕ
 cells_text cells = codes "[" ++ join_with_byte 44 (map cell_text cells) ++ codes "]"
 
--- what stands between the cell at a row and the one before it
-abbrev pub comma_before : ℕ → List ℕ
-comma_before zero = []
-comma_before (suc row) = codes ","
+-- what stands in front of a cell: a comma, unless it is the first
+abbrev pub comma_unless : Bool → List ℕ
+comma_unless true = []
+comma_unless false = codes ","
+
+-- the cells that are left, behind the ones before them unless there are none
+abbrev pub rest_text : Bool → List Cell → List ℕ
+rest_text is_first [] = []
+rest_text is_first (c ∷ cells) =
+    comma_unless is_first ++ (cell_text c ++ rest_text false cells)
 
 -- the name of an error's variant
 abbrev pub error_name : Error → List ℕ

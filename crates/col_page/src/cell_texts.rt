@@ -11,7 +11,7 @@ use itoa::{Buffer, Integer};
 pub trait Printed: NativeType {
     /// Adds the text of a value.
     fn push_value(self, text: &mut Vec<u8>, buffer: &mut Buffer) -> Result<(), Error>
-        ensures text { IfOk result
+        ensures value { IfOk result
             (λ _. text.new.items ≡ text.old.items ++ cell_text (value_cell (Self.numbers self))) }
         ensures refused { FailsByMemory result };
 }
@@ -23,7 +23,7 @@ pub fn push_slot<T: Printed>(
     buffer: &mut Buffer,
     slot: Option<T>,
 ) -> Result<(), Error>
-    ensures text { IfOk result
+    ensures value { IfOk result
         (λ _. text.new.items ≡ text.old.items ++ cell_text (native_cell T.numbers slot)) }
     ensures refused { FailsByMemory result }
 {
@@ -36,7 +36,7 @@ pub fn push_slot<T: Printed>(
 // Adds a number.
 #[inline(always)]
 fn push_number<I: Integer>(text: &mut Vec<u8>, buffer: &mut Buffer, n: I) -> Result<(), Error>
-    ensures text { IfOk result (λ _. text.new.items ≡ text.old.items ++ I.text n) }
+    ensures value { IfOk result (λ _. text.new.items ≡ text.old.items ++ I.text n) }
     ensures refused { FailsByMemory result }
 {
     text.extend_from_slice(buffer.format(n).as_bytes())?;
@@ -45,7 +45,7 @@ fn push_number<I: Integer>(text: &mut Vec<u8>, buffer: &mut Buffer, n: I) -> Res
 
 // Adds a number behind a comma.
 fn push_next_number<I: Integer>(text: &mut Vec<u8>, buffer: &mut Buffer, n: I) -> Result<(), Error>
-    ensures text { IfOk result (λ _. text.new.items ≡ text.old.items ++ (codes "," ++ I.text n)) }
+    ensures value { IfOk result (λ _. text.new.items ≡ text.old.items ++ (codes "," ++ I.text n)) }
     ensures refused { FailsByMemory result }
 {
     text.push(b',')?;

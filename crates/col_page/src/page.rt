@@ -8,7 +8,7 @@ ghost use Rattle.col_eval.specs.Meaning.{outcome_of};
 ghost use Rattle.col_eval.specs.Tree.{tree_of};
 ghost use Rattle.col_page.specs.Page.{cell_text, cells_text, error_name, has_error_line};
 ghost use Rattle.col_page.specs.Page.{line_text, page_text};
-ghost use Rattle.col_page.specs.Page.{IsLine, comma_before};
+ghost use Rattle.col_page.specs.Page.{IsLine, comma_unless};
 ghost use Rattle.col_document.specs.TypeText.{type_text};
 ghost use Rattle.col_document.specs.View.{document_view};
 
@@ -70,7 +70,7 @@ pub fn page_of(alloc: Global, doc: &Document) -> Result<Page, Error>
 
 // Adds the line of a tree's outcome, and tells whether it is an error line.
 fn push_line(alloc: Global, text: &mut Vec<u8>, table: &Table, tree: &Expr) -> Result<bool, Error>
-    ensures line { IfOk result (IsLine (outcome_of (tree_of tree.now) table.now)
+    ensures value { IfOk result (IsLine (outcome_of (tree_of tree.now) table.now)
         text.old.items text.new.items) }
     ensures refused { FailsByMemory result }
 {
@@ -89,7 +89,7 @@ fn push_line(alloc: Global, text: &mut Vec<u8>, table: &Table, tree: &Expr) -> R
 
 // Adds the line of a refusal.
 fn push_error(text: &mut Vec<u8>, error: Error) -> Result<(), Error>
-    ensures line { IfOk result (λ _. text.new.items
+    ensures value { IfOk result (λ _. text.new.items
         ≡ text.old.items ++ (codes "error " ++ error_name error ++ codes "\n")) }
     ensures refused { FailsByMemory result }
 {
@@ -116,7 +116,7 @@ fn variant_name(error: Error) -> &'static str
 
 // Adds the line of a column.
 fn push_column(text: &mut Vec<u8>, column: &AnyArray) -> Result<(), Error>
-    ensures line { IfOk result (λ _. text.new.items
+    ensures value { IfOk result (λ _. text.new.items
         ≡ text.old.items ++ (type_text (any_column column.now).data_type ++ codes " "
         ++ cells_text (any_column column.now).cells ++ codes "\n")) }
     ensures refused { FailsByMemory result }
@@ -130,7 +130,7 @@ fn push_column(text: &mut Vec<u8>, column: &AnyArray) -> Result<(), Error>
 
 // Adds the cells of an array of any type.
 fn push_any_cells(text: &mut Vec<u8>, column: &AnyArray) -> Result<(), Error>
-    ensures cells { IfOk result
+    ensures value { IfOk result
         (λ _. text.new.items ≡ text.old.items ++ cells_text (any_column column.now).cells) }
     ensures refused { FailsByMemory result }
 {
@@ -139,32 +139,34 @@ fn push_any_cells(text: &mut Vec<u8>, column: &AnyArray) -> Result<(), Error>
 
 // Adds the cells in brackets, joined by commas.
 fn push_cells<T: Printed>(text: &mut Vec<u8>, array: &PrimitiveArray<T>) -> Result<(), Error>
-    ensures cells { IfOk result
+    ensures value { IfOk result
         (λ _. text.new.items ≡ text.old.items ++ cells_text (column_of array.now).cells) }
     ensures refused { FailsByMemory result }
 {
     let mut buffer = Buffer::new();
     text.push(b'[')?;
-    for row in 0..array.len() {
-        push_next_slot(text, &mut buffer, row, array.get(row))?;
+    let mut is_first = true;
+    for slot in array.iter() {
+        push_next_slot(text, &mut buffer, is_first, slot)?;
+        is_first = false;
     }
     text.push(b']')?;
     Ok(())
 }
 
-// Adds the text of the slot at a row, behind a comma where it is not the first.
+// Adds the text of a slot, behind a comma where it is not the first.
 #[inline(always)]
 fn push_next_slot<T: Printed>(
     text: &mut Vec<u8>,
     buffer: &mut Buffer,
-    row: usize,
+    is_first: bool,
     slot: Option<T>,
 ) -> Result<(), Error>
-    ensures cell { IfOk result (λ _. text.new.items
-        ≡ text.old.items ++ (comma_before row ++ cell_text (native_cell T.numbers slot))) }
+    ensures value { IfOk result (λ _. text.new.items
+        ≡ text.old.items ++ (comma_unless is_first ++ cell_text (native_cell T.numbers slot))) }
     ensures refused { FailsByMemory result }
 {
-    if row > 0 {
+    if !is_first {
         text.push(b',')?;
     }
     push_slot(text, buffer, slot)

@@ -11,7 +11,7 @@ use itoa::Buffer;
 
 /// Adds the text of a type: its name, then its parameters in brackets.
 pub fn push_type(text: &mut Vec<u8>, data_type: &DataType) -> Result<(), Error>
-    ensures text { IfOk result
+    ensures value { IfOk result
         (λ _. text.new.items ≡ text.old.items ++ type_text (kind_of data_type.now)) }
     ensures refused { FailsByMemory result }
 {
@@ -28,7 +28,7 @@ pub fn push_type(text: &mut Vec<u8>, data_type: &DataType) -> Result<(), Error>
 
 // Adds a name with its bracket, a parameter, and the other bracket.
 fn push_parts(text: &mut Vec<u8>, name: &str, parameter: &str) -> Result<(), Error>
-    ensures text { IfOk result
+    ensures value { IfOk result
         (λ _. text.new.items ≡ text.old.items ++ (name.now ++ parameter.now ++ codes ")")) }
     ensures refused { FailsByMemory result }
 {
@@ -40,7 +40,7 @@ fn push_parts(text: &mut Vec<u8>, name: &str, parameter: &str) -> Result<(), Err
 
 // Adds the text of a type of instants.
 fn push_timestamp(text: &mut Vec<u8>, unit: TimeUnit, zone: &Option<Text>) -> Result<(), Error>
-    ensures text { IfOk result (λ _. text.new.items ≡ text.old.items
+    ensures value { IfOk result (λ _. text.new.items ≡ text.old.items
         ++ (codes "Timestamp(" ++ unit_text unit ++ zone_text zone.now ++ codes ")")) }
     ensures refused { FailsByMemory result }
 {
@@ -56,7 +56,7 @@ fn push_timestamp(text: &mut Vec<u8>, unit: TimeUnit, zone: &Option<Text>) -> Re
 
 // Adds the text of a type of decimal numbers.
 fn push_decimal(text: &mut Vec<u8>, precision: usize, scale: usize) -> Result<(), Error>
-    ensures text { IfOk result (λ _. text.new.items ≡ text.old.items
+    ensures value { IfOk result (λ _. text.new.items ≡ text.old.items
         ++ (codes "Decimal(" ++ decimal precision ++ codes "," ++ decimal scale ++ codes ")")) }
     ensures refused { FailsByMemory result }
 {

@@ -9,7 +9,7 @@ pub loop-i-preserved : goal.loop-i-preserved
 loop-i-preserved c =
     let trees = (document_view c.args.doc.now).trees in
     let table = (document_view c.args.doc.now).table in
-    let line = c.in_ok-has_error.ensures.line in
+    let line = c.in_ok-has_error.ensures.value in
     record {
       text = rw (flat_map-next
           (λ tree. line_text (outcome_of tree table)) trees c.loop-i.i _ c.tree.ensures)

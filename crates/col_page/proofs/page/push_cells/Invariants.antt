@@ -1,11 +1,10 @@
-use Rattle.std.proofs.Common.{◌≡◌, ◌++◌, map, take}
-use Rattle.std.specs.List.{join_with_byte}
-use Rattle.col_flat.specs.Parts.{column_of}
-use Rattle.col_page.specs.Page.{cell_text}
+use Rattle.std.proofs.Common.{◌≡◌, ◌++◌, map}
+use Rattle.col_flat.specs.Parts.{column_of, slot_cell}
+use Rattle.col_page.specs.Page.{rest_text}
 use Rattle.col_page.proofs.page.push_cells.Given as goal
 
--- the cells so far, joined
-abbrev pub invariant-loop-row : goal.invariant-loop-row
-invariant-loop-row g l =
-    l.text.items ≡ l.initial.text.items ++ join_with_byte 44
-    (map cell_text (take l.row (column_of l.array).cells))
+-- the text so far with the cells that are left is the text with all cells
+abbrev pub invariant-loop-slot : goal.invariant-loop-slot
+invariant-loop-slot g l =
+    l.text.items ++ rest_text l.is_first (map slot_cell l.slot-iterator)
+    ≡ l.initial.text.items ++ rest_text l.initial.is_first (column_of l.array).cells
