@@ -4,7 +4,7 @@ use Rattle.std.proofs.lemmas.Slice.Eq.{bytes_eq-Decides}
 use Rattle.std.proofs.Common.{Bool, IsTrue, ◌↔◌, ◌≡◌, ◌≤◌, ◌<◌, ℕ, List, [], ◌∷◌, length, get_or}
 use Rattle.std.proofs.Common.{map, ap, String, Global, string_bytes, Option, None, Some, refl}
 use Rattle.std.proofs.Common.{sym, ◌∙◌, append-nil, arith}
-use Rattle.col_run.specs.Faults.{TakesAtMost}
+use Rattle.col_run.specs.Faults.{TakesAll, TakesAtMost}
 use Rattle.col_run.specs.Run.{IsPageOf, IsStopped, ReadsAll, TakesWithin, max_bytes}
 use Rattle.col_page.specs.PageView.{PageView}
 use Rattle.col_run.specs.declared.status.Status.{Status}
@@ -18,6 +18,13 @@ reads_all-within None rest fact h = ([], h, omega arith)
 reads_all-within (Some bytes) (Some none) fact (short, ended, holds) =
     let e : none ≡ [] = cc in (bytes, rw (e, append-nil) refl, short)
 reads_all-within (Some bytes) None fact (short, ended, holds) = absurd cc
+
+-- what was taken to its end, and is within the limit, was read whole
+pub reads_all-taken : (left rest : Option (List ℕ)) (bytes : List ℕ) (fact : List ℕ → Type 0)
+    → TakesAll left bytes rest → length bytes ≤ max_bytes → fact bytes → ReadsAll left rest fact
+reads_all-taken None rest bytes fact taken short holds = taken
+reads_all-taken (Some all) rest bytes fact taken short holds =
+    rw taken.0 (short, taken.1, holds)
 
 -- a page is of what is within the limit
 pub page_of-within : (left rest : Option (List ℕ)) (page : PageView) → IsPageOf left rest page

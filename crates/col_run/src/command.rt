@@ -66,7 +66,7 @@ fn is_eval(words: &[String]) -> bool
 // The page of the document that the source has left, or the status that says why there is none.
 fn page_from<S: Source>(alloc: Global, source: &mut S) -> Result<Page, Status>
     ensures page { IfOk result (IsPageOf (S.left source.old) (S.left source.new)) }
-    ensures stopped { IfErr result (IsStopped (S.left source.old) (S.left source.new)
+    ensures refused { IfErr result (IsStopped (S.left source.old) (S.left source.new)
         (S.faults source.old) (S.faults source.new)) }
 {
     let bytes = match read_all(alloc, source) {

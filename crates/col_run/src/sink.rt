@@ -69,8 +69,8 @@ impl MemorySink {
         step: usize,
         fails: Vec<u64>,
     ) -> Result<MemorySink, Error>
-        ensures state { IfOk result (λ s. s ≡ first_state room step fails.items) }
-        ensures memory { FailsByMemory result }
+        ensures value { IfOk result (λ s. s ≡ first_state room step fails.items) }
+        ensures refused { FailsByMemory result }
     {
         let bytes = Vec::with_capacity(alloc, room)?;
         Ok(MemorySink {
@@ -140,7 +140,7 @@ pub struct WriteSink<W> {
 impl<W: Write> WriteSink<W> {
     /// A sink that gives what is written to the writer.
     pub fn new(writer: W) -> WriteSink<W>
-        ensures faults { ⟦<WriteSink<W> as Sink>⟧.faults result ≡ 0 }
+        ensures value { ⟦<WriteSink<W> as Sink>⟧.faults result ≡ 0 }
     {
         WriteSink { writer, faults: 0 }
     }

@@ -50,7 +50,7 @@ impl Model for SteadySource {
 impl SteadySource {
     /// A source of these bytes.
     pub fn new(bytes: Vec<u8>) -> SteadySource
-        ensures left { ⟦<SteadySource as Source>⟧.left result ≡ Some bytes.items }
+        ensures value { ⟦<SteadySource as Source>⟧.left result ≡ Some bytes.items }
     {
         SteadySource { bytes, place: 0 }
     }
@@ -81,7 +81,7 @@ pub struct ReadSource<R> {
 impl<R: Read> ReadSource<R> {
     /// A source of what the reader gives.
     pub fn new(reader: R) -> ReadSource<R>
-        ensures faults { ⟦<ReadSource<R> as Source>⟧.faults result ≡ 0 }
+        ensures value { ⟦<ReadSource<R> as Source>⟧.faults result ≡ 0 }
     {
         ReadSource { reader, faults: 0 }
     }

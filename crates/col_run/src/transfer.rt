@@ -39,9 +39,9 @@ impl From<AllocError> for Stop {
 /// Refused, in this order: `ReadFault` where the source failed; `TooLong` where one byte more than
 /// `LIMIT` was read. What was read is gone from the source.
 pub(crate) fn read_all<S: Source>(alloc: Global, source: &mut S) -> Result<Vec<u8>, Stop>
-    ensures whole { IfOk result
+    ensures value { IfOk result
         (λ bytes. TakesAll (S.left source.old) bytes.items (S.left source.new)) }
-    ensures short { IfOk result (λ bytes. length bytes.items ≤ max_bytes) }
+    ensures bound { IfOk result (λ bytes. length bytes.items ≤ max_bytes) }
     ensures too_long { IsErrOf result Stop.TooLong →
         TakesCount (S.left source.old) (max_bytes + 1) (S.left source.new) }
     ensures read_fault { IsErrOf result Stop.ReadFault →
@@ -72,7 +72,7 @@ pub(crate) fn read_all<S: Source>(alloc: Global, source: &mut S) -> Result<Vec<u
 ///
 /// Refused where the sink failed; then some front of the bytes was written.
 pub(crate) fn write_all<K: Sink>(sink: &mut K, bytes: &[u8]) -> Result<(), Failed>
-    ensures whole { OnOk result (AddsBytes (K.written sink.old) bytes.now (K.written sink.new)) }
+    ensures value { OnOk result (AddsBytes (K.written sink.old) bytes.now (K.written sink.new)) }
     ensures kept { OnErr result (AddsFront (K.written sink.old) bytes.now (K.written sink.new)) }
     ensures cause { OnErr result (FaultsRose (K.faults sink.old) (K.faults sink.new)) }
     ensures counts { K.faults sink.old ≤ K.faults sink.new }
