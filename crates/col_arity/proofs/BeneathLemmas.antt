@@ -52,12 +52,16 @@ maps_beneath_flags allows stored none wider [] (ns ∷ values) (b ∷ truths) e 
 maps_beneath_flags allows stored none wider (slot ∷ slots) [] truths e h = absurd h
 maps_beneath_flags allows stored none wider (slot ∷ slots) (ns ∷ values) [] e h =
     absurd (omega arith)
-maps_beneath_flags allows stored none wider (None ∷ slots) (ns ∷ values) (b ∷ truths) e h =
-    (null_beneath none b h.0, maps_beneath_flags allows stored none wider slots values truths
-        (omega arith) h.1)
-maps_beneath_flags allows stored none wider (Some x ∷ slots) (ns ∷ values) (b ∷ truths) e h =
-    (wider x ns b h.0, maps_beneath_flags allows stored none wider slots values truths
-        (omega arith) h.1)
+maps_beneath_flags allows stored none wider (None ∷ slots) (ns ∷ values) (b ∷ truths) e h = (
+  null_beneath none b h.0,
+  maps_beneath_flags allows stored none wider slots values truths
+      (omega arith) h.1,
+)
+maps_beneath_flags allows stored none wider (Some x ∷ slots) (ns ∷ values) (b ∷ truths) e h = (
+  wider x ns b h.0,
+  maps_beneath_flags allows stored none wider slots values truths
+      (omega arith) h.1,
+)
 
 -- as many pairs as elements of either of two lists of one length
 length_zip : {X Y : Type 0} (xs : List X) (ys : List Y) → length ys ≡ length xs
@@ -79,10 +83,14 @@ IsMapped-beneath numbers post seen none t slots values mask array flags made is 
   data_type = refl;
   rows = rw (masked_slots-flags values mask (map is_some slots) flags)
       (maps_beneath (AnswersWith numbers post (λ r. Some (seen r)))
-          (AnswersWith numbers post seen) none
-      (λ x ns h. record
-          { value = h.value; answer = h.answer; is_value = h.is_value; answers = h.answers;
-          is_answer = ap Some h.is_answer })
+      (AnswersWith numbers post seen) none
+      (λ x ns h. record {
+        value = h.value;
+        answer = h.answer;
+        is_value = h.is_value;
+        answers = h.answers;
+        is_answer = ap Some h.is_answer;
+      })
       slots values made);
 })
 
@@ -94,7 +102,7 @@ pub IsMaskOf-made : {X T : Type 0} (allows : X → List ℤ → Type 0) (none : 
 IsMaskOf-made allows none slots numbers values mask flags made =
     IsMaskOf-flags mask (map is_some slots) (length values) flags
     (length-map slots is_some ∙ length-made allows none slots (map numbers values) made
-        ∙ length-map values numbers)
+    ∙ length-map values numbers)
 
 -- a row pushed behind those that are made
 pub map-more : {T : Type 0} (numbers : T → List ℤ) (values values' : List T) (x : T) (ns : List ℤ)
@@ -102,7 +110,7 @@ pub map-more : {T : Type 0} (numbers : T → List ℤ) (values values' : List T)
     → map numbers values' ≡ map numbers values ++ ns ∷ []
 map-more numbers values values' x ns more is =
     ap (map numbers) more ∙ map_push numbers values x
-        ∙ ap (λ (n : List ℤ). map numbers values ++ n ∷ []) is
+    ∙ ap (λ (n : List ℤ). map numbers values ++ n ∷ []) is
 
 -- values and flags that are made row by row, beneath a mask that tells which rows are valid
 pub IsMappedWithFlags-beneath : {X R N : Type 0} (numbers : X → N) (post : X → R → Type 0)
@@ -115,16 +123,20 @@ pub IsMappedWithFlags-beneath : {X R N : Type 0} (numbers : X → N) (post : X �
     slots array flags
 IsMappedWithFlags-beneath numbers post seen flag none t slots values truths flags mask array valid
     one_length made is same = rw (is, same) (record {
-  data_type = refl;
-  one_length = one_length ∙ sym (length-masked_slots values (unwrap_or mask []));
-  rows = rw (masked_slots-flags values mask (map is_some slots) valid)
-      (maps_beneath_flags (AnswersWith numbers post (λ r. (Some (seen r), flag r)))
+      data_type = refl;
+      one_length = one_length ∙ sym (length-masked_slots values (unwrap_or mask []));
+      rows = rw (masked_slots-flags values mask (map is_some slots) valid)
+          (maps_beneath_flags (AnswersWith numbers post (λ r. (Some (seen r), flag r)))
           (AnswersWith numbers post (λ r. (seen r, flag r))) none
-      (λ x ns b h. record
-          { value = h.value; answer = h.answer; is_value = h.is_value; answers = h.answers;
-          is_answer = ap (λ (p : List ℤ × Bool). (Some p.0, p.1)) h.is_answer })
-      slots values truths one_length made);
-})
+          (λ x ns b h. record {
+            value = h.value;
+            answer = h.answer;
+            is_value = h.is_value;
+            answers = h.answers;
+            is_answer = ap (λ (p : List ℤ × Bool). (Some p.0, p.1)) h.is_answer;
+          })
+          slots values truths one_length made);
+    })
 
 -- flags that are made beside values are as many as these
 pub IsMaskOf-made_flags : {X T : Type 0} (allows : X → List ℤ × Bool → Type 0)
@@ -136,4 +148,4 @@ IsMaskOf-made_flags allows none slots numbers values truths mask flags one_lengt
     IsMaskOf-flags mask (map is_some slots) (length values) flags
     (length-map slots is_some ∙ length-made allows none slots (zip (map numbers values) truths) made
     ∙ length_zip (map numbers values) truths (one_length ∙ sym (length-map values numbers))
-        ∙ length-map values numbers)
+    ∙ length-map values numbers)

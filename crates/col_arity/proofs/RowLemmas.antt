@@ -127,7 +127,7 @@ at_zipped (None ∷ xs) (b ∷ ys) zero x y within is = cc
 at_zipped (Some a ∷ xs) (None ∷ ys) zero x y within is = cc
 at_zipped (Some a ∷ xs) (Some b ∷ ys) zero x y within is =
     let parts = some_pair_parts a x b y is in
-        (omega arith, ap Some parts.0, omega arith, ap Some parts.1)
+    (omega arith, ap Some parts.0, omega arith, ap Some parts.1)
 at_zipped (a ∷ xs) (b ∷ ys) (suc k) x y within is =
     let rest = at_zipped xs ys k x y (omega arith) is in (omega arith, rest.1, omega arith, rest.3)
 
@@ -157,7 +157,7 @@ pub callable_stored_pairs : {X : Type 0} (numbers : X → List ℤ × List ℤ) 
 callable_stored_pairs numbers pre left left_flags right right_flags callable = λ x within.
     let k = within.0 in
     let row = at_zipped (masked_slots left left_flags) (masked_slots right right_flags) k
-        (numbers x).0 (numbers x).1 within.1 within.2 in
+    (numbers x).0 (numbers x).1 within.1 within.2 in
     let lhs = at_masked left left_flags k (numbers x).0 row.0 row.1 in
     let rhs = at_masked right right_flags k (numbers x).1 row.2 row.3 in
     let stored = at_zip left right k (numbers x).0 (numbers x).1 lhs.0 lhs.1 rhs.0 rhs.1 in

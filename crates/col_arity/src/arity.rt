@@ -131,9 +131,7 @@ pub fn binary<T: NativeType, D: NativeType, F: Fn(T, D) -> T>(
     let each = |pair: (T, D)| -> T
         requires { F.pre op pair.0 pair.1 }
         ensures { F.post op pair.0 pair.1 result }
-    {
-        op(pair.0, pair.1)
-    };
+    { op(pair.0, pair.1) };
     let values = mapped::rows(alloc, lhs.len(), rows, each)?;
     beneath(alloc, data_type, values, validity)
 }
@@ -167,9 +165,7 @@ pub fn binary_checked<T: NativeType, D: NativeType, F: Fn(T, D) -> Option<T>>(
     let each = |pair: (T, D)| -> Option<T>
         requires { F.pre op pair.0 pair.1 }
         ensures { F.post op pair.0 pair.1 result }
-    {
-        op(pair.0, pair.1)
-    };
+    { op(pair.0, pair.1) };
     let slots = checked::rows(alloc, lhs.len(), rows, each)?;
     slots.into_array(alloc, data_type)
 }
@@ -203,9 +199,7 @@ pub fn binary_with_bitmap<T: NativeType, D: NativeType, F: Fn(T, D) -> (T, bool)
     let each = |pair: (T, D)| -> (T, bool)
         requires { F.pre op pair.0 pair.1 }
         ensures { F.post op pair.0 pair.1 result }
-    {
-        op(pair.0, pair.1)
-    };
+    { op(pair.0, pair.1) };
     let made = flagged::rows(alloc, lhs.len(), rows, each)?;
     let array = beneath(alloc, data_type, made.0, validity)?;
     let flags = Bitmap::from_bools(alloc, made.1.as_slice())?;
@@ -244,9 +238,7 @@ pub fn try_binary<T: NativeType, D: NativeType, F: Fn(T, D) -> Result<T, Error>>
     let each = |pair: (T, D)| -> Result<T, Error>
         requires { F.pre op pair.0 pair.1 }
         ensures { F.post op pair.0 pair.1 result }
-    {
-        op(pair.0, pair.1)
-    };
+    { op(pair.0, pair.1) };
     let values = fallible::rows(alloc, lhs.len(), rows, each)?;
     beneath(alloc, data_type, values, validity)
 }

@@ -24,8 +24,13 @@ loop-slot-preserved-in-Continue-branch-2 g c =
     record {
       callable = callable_rest _ _ c.loop-slot.invariant.callable next;
       rows = MapsSoFar-value c.loop-slot.invariant.rows is
-          (record { value = c.in-Some-slot.value; answer = c.op-answer.result; is_value = refl;
-              answers = c.op-answer.ensures; is_answer = refl })
+          (record {
+            value = c.in-Some-slot.value;
+            answer = c.op-answer.result;
+            is_value = refl;
+            answers = c.op-answer.ensures;
+            is_answer = refl;
+          })
           c.in_ok-push-in-Some-slot.ensures.value;
     }
 

@@ -10,6 +10,6 @@ invariant-loop-slot g l = record {
       (g.S.Rows.left l.slot-iterator);
   rows : MapsSoFar
       (AnswersWith g.S.Rows.seen (λ x r. goal.F-post g l.fn.op x r)
-          (λ r. option_map g.O.NativeType.numbers r))
-      None (g.S.Rows.left l.slots) (g.S.Rows.left l.slot-iterator) l.made;
+      (λ r. option_map g.O.NativeType.numbers r))
+      None (g.S.Rows.left l.fn.slots) (g.S.Rows.left l.slot-iterator) l.made;
 }

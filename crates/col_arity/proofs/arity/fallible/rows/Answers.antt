@@ -29,25 +29,39 @@ loop-slot-preserved-in-Continue-branch-3 g c =
     record {
       callable = callable_rest _ _ c.loop-slot.invariant.callable next;
       rows = MapsSoFar-value c.loop-slot.invariant.rows is
-          (record { value = c.in-Some-slot.value; answer = c.in_ok-answer-in-Some-slot.answer;
-              is_value = refl; answers = c.in_ok-answer-in-Some-slot.ensures; is_answer = refl })
+          (record {
+            value = c.in-Some-slot.value;
+            answer = c.in_ok-answer-in-Some-slot.answer;
+            is_value = refl;
+            answers = c.in_ok-answer-in-Some-slot.ensures;
+            is_answer = refl;
+          })
           (map-more g.O.NativeType.numbers _ _ _ _ c.in_ok-push-in-Some-slot.ensures.items refl);
       refusals = RefusesSoFar-value {s = c.in_ok-answer-in-Some-slot.answer}
           c.loop-slot.invariant.refusals is
-          (record { value = c.in-Some-slot.value; answer = c.in_ok-answer-in-Some-slot.answer;
-              is_value = refl; answers = c.in_ok-answer-in-Some-slot.ensures; is_answer = refl });
+          (record {
+            value = c.in-Some-slot.value;
+            answer = c.in_ok-answer-in-Some-slot.answer;
+            is_value = refl;
+            answers = c.in_ok-answer-in-Some-slot.ensures;
+            is_answer = refl;
+          });
     }
 
 pub returns-in_err-answer-in-Some-slot-clause-refused : goal.returns-in_err-answer-in-Some-slot-clause-refused
 returns-in_err-answer-in-Some-slot-clause-refused g c =
     let p = err_from_is_err_and c.from_residual-in_err-answer-in-Some-slot.result
-        c.from_residual-in_err-answer-in-Some-slot.ensures.1 in
+    c.from_residual-in_err-answer-in-Some-slot.ensures.1 in
     let next = g.met.S.Rows.gives _ _ _ c.in-Some.ensures.steps in
     let is = rw c.in-Some-slot.is at next in
     let e = c.in_err-answer-in-Some-slot.field-0.0 in
     rw (p.1, p.2) (UnlessMemory-from e _ (RefusesSoFar-end e c.loop-slot.invariant.refusals is
-    (record { value = c.in-Some-slot.value; is_value = refl; refused =
-        c.in_err-answer-in-Some-slot.ensures })))
+    (record {
+      value = c.in-Some-slot.value;
+      is_value = refl;
+      refused =
+          c.in_err-answer-in-Some-slot.ensures;
+    })))
 
 pub returns-clause-answer : goal.returns-clause-answer
 returns-clause-answer g c =

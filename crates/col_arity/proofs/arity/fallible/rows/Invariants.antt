@@ -11,11 +11,11 @@ invariant-loop-slot g l = record {
       (g.S.Rows.left l.slot-iterator);
   rows : MapsSoFar
       (AnswersWith g.S.Rows.seen (λ x r. goal.F-post g l.fn.op x (Ok r))
-          (λ r. g.O.NativeType.numbers r))
-      (zero_numbers g.O.NativeType.field_types) (g.S.Rows.left l.slots)
+      (λ r. g.O.NativeType.numbers r))
+      (zero_numbers g.O.NativeType.field_types) (g.S.Rows.left l.fn.slots)
       (g.S.Rows.left l.slot-iterator) (map g.O.NativeType.numbers l.values.items);
   refusals : RefusesSoFar {E = Error}
       (AnswersWith g.S.Rows.seen (λ x r. goal.F-post g l.fn.op x (Ok r)) (λ r. r))
       (λ e. RefusesWith g.S.Rows.seen (λ x. goal.F-post g l.fn.op x (Err e)))
-      (g.S.Rows.left l.slots) (g.S.Rows.left l.slot-iterator);
+      (g.S.Rows.left l.fn.slots) (g.S.Rows.left l.slot-iterator);
 }

@@ -31,11 +31,16 @@ loop-slot-preserved-in-Continue-branch-4 g c =
     record {
       callable = callable_rest _ _ c.loop-slot.invariant.callable next;
       rows = MapsSoFar-value c.loop-slot.invariant.rows is
-          (record { value = c.in-Some-slot.value; answer = c.op-answer.result; is_value = refl;
-              answers = c.op-answer.ensures; is_answer = refl })
+          (record {
+            value = c.in-Some-slot.value;
+            answer = c.op-answer.result;
+            is_value = refl;
+            answers = c.op-answer.ensures;
+            is_answer = refl;
+          })
           (zip-more _ _ _ _ _ _ (c.loop-slot.invariant.one_length ∙ sym (length-map _ _))
-              (map-more g.O.NativeType.numbers _ _ _ _ c.in_ok-push-in-Some-slot.ensures.items refl)
-              c.in_ok-push-in-Some-slot-2.ensures.items);
+          (map-more g.O.NativeType.numbers _ _ _ _ c.in_ok-push-in-Some-slot.ensures.items refl)
+          c.in_ok-push-in-Some-slot-2.ensures.items);
       one_length = length-more _ _ _ _ _ _ c.loop-slot.invariant.one_length
           c.in_ok-push-in-Some-slot.ensures.items c.in_ok-push-in-Some-slot-2.ensures.items;
     }

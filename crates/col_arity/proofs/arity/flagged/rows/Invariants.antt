@@ -11,8 +11,8 @@ invariant-loop-slot g l = record {
       (g.S.Rows.left l.slot-iterator);
   rows : MapsSoFar
       (AnswersWith g.S.Rows.seen (λ x r. goal.F-post g l.fn.op x r)
-          (λ r. (g.O.NativeType.numbers r.0, r.1)))
-      (zero_numbers g.O.NativeType.field_types, false) (g.S.Rows.left l.slots)
+      (λ r. (g.O.NativeType.numbers r.0, r.1)))
+      (zero_numbers g.O.NativeType.field_types, false) (g.S.Rows.left l.fn.slots)
       (g.S.Rows.left l.slot-iterator)
       (zip (map g.O.NativeType.numbers l.values.items) l.flags.items);
   one_length : length l.flags.items ≡ length l.values.items;

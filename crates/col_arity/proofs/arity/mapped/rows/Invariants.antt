@@ -10,6 +10,6 @@ invariant-loop-slot g l = record {
       (g.S.Rows.left l.slot-iterator);
   rows : MapsSoFar
       (AnswersWith g.S.Rows.seen (λ x r. goal.F-post g l.fn.op x r) (λ r. g.O.NativeType.numbers r))
-      (zero_numbers g.O.NativeType.field_types) (g.S.Rows.left l.slots)
+      (zero_numbers g.O.NativeType.field_types) (g.S.Rows.left l.fn.slots)
       (g.S.Rows.left l.slot-iterator) (map g.O.NativeType.numbers l.values.items);
 }
