@@ -1,7 +1,7 @@
 -- Facts on answers whose nulls are those of the arrays that they are made from.
-use Rattle.std.proofs.Common.{◌≡◌, suc, ℤ, Bool, false, List, [], ◌∷◌, ◌++◌, length, map, is_some, Option, Some, None, unwrap_or, refl, sym, ap, ◌∙◌, arith}
+use Rattle.std.proofs.Common.{◌≡◌, suc, ℤ, Bool, false, List, [], ◌∷◌, length, map, is_some, Option, Some, None, unwrap_or, refl, sym, ap, ◌∙◌, arith}
 use Rattle.std.specs.List.{zip}
-use Rattle.std.proofs.lemmas.List.{length-map, map_push}
+use Rattle.std.proofs.lemmas.List.{length-map}
 use Rattle.col_types.specs.DataKind.{DataKind}
 use Rattle.col_flat.specs.Parts.{HasFlags, IsMaskOf, PrimitiveParts, masked_slots}
 use Rattle.col_flat.proofs.PartsLemmas.{IsMaskOf-flags, length-masked_slots, masked_slots-flags}
@@ -103,14 +103,6 @@ IsMaskOf-made allows none slots numbers values mask flags made =
     IsMaskOf-flags mask (map is_some slots) (length values) flags
     (length-map slots is_some ∙ length-made allows none slots (map numbers values) made
     ∙ length-map values numbers)
-
--- a row pushed behind those that are made
-pub map-more : {T : Type 0} (numbers : T → List ℤ) (values values' : List T) (x : T) (ns : List ℤ)
-    → values' ≡ values ++ x ∷ [] → numbers x ≡ ns
-    → map numbers values' ≡ map numbers values ++ ns ∷ []
-map-more numbers values values' x ns more is =
-    ap (map numbers) more ∙ map_push numbers values x
-    ∙ ap (λ (n : List ℤ). map numbers values ++ n ∷ []) is
 
 -- values and flags that are made row by row, beneath a mask that tells which rows are valid
 pub IsMappedWithFlags-beneath : {X R N : Type 0} (numbers : X → N) (post : X → R → Type 0)

@@ -1,13 +1,13 @@
 -- Facts on what a closure gives for the rows of arrays.
-use Rattle.std.proofs.Common.{◌≡◌, ℕ, zero, suc, ◌<◌, ℤ, Bool, true, false, List, [], ◌∷◌, ◌++◌, length, get_or, Option, Some, None, refl, ap, arith, inl, inr}
+use Rattle.std.proofs.Common.{◌≡◌, ℕ, zero, suc, ◌<◌, ℤ, Bool, true, false, List, [], ◌∷◌, ◌++◌, length, map, get_or, Option, Some, None, Result, Ok, Err, refl, sym, ap, ◌∙◌, arith, inl, inr}
 use Rattle.std.specs.List.{zip}
-use Rattle.std.proofs.lemmas.List.{append-nil, append_assoc, length_push}
+use Rattle.std.proofs.lemmas.List.{append-nil, append_assoc, length-map, length_push, map_push}
 use Rattle.std.proofs.lemmas.Option.{some_pair_parts}
 use Rattle.col_types.specs.Answer.{UnlessMemory}
 use Rattle.col_types.specs.declared.error.Error.{Error}
 use Rattle.col_types.specs.declared.error.Error.TheVariants.{Memory}
 use Rattle.col_flat.specs.Parts.{masked_slots, zipped_slots}
-use Rattle.col_arity.specs.Rows.{IsCallableAtStored, IsCallableAtValid, MapsSlots, RefusesFirst}
+use Rattle.col_arity.specs.Rows.{AnswersWith, IsCallableAtStored, IsCallableAtValid, IsFirstRefusal, MapsSlots, RefusesFirst, RefusesWith}
 
 -- what follows what was made for the front of the slots is what is made for those that are left
 pub record MapsSoFar {X S : Type 0} (allows : X → S → Type 0) (none : S)
@@ -34,6 +34,12 @@ MapsSoFar-null {none = none} {made = made} soFar is more = record {
       (soFar.then (none ∷ later) (rw is (refl, h)));
 }
 
+-- a value is answered as the closure answers it
+pub AnswersWith-of : {X R N S : Type 0} {numbers : X → N} {post : X → R → Type 0} {seen : R → S}
+    (x : X) (r : R) → post x r → AnswersWith numbers post seen (numbers x) (seen r)
+AnswersWith-of x r h =
+    record { value = x; answer = r; is_value = refl; answers = h; is_answer = refl }
+
 -- at the end all is made
 pub MapsSoFar-end : {X S : Type 0} {allows : X → S → Type 0} {none : S}
     {slots left : List (Option X)} {made : List S} → MapsSoFar allows none slots left made
@@ -58,11 +64,21 @@ pub RefusesSoFar-null : {X S E : Type 0} {allows : X → S → Type 0} {refuses 
     → left ≡ None ∷ rest → RefusesSoFar allows refuses slots rest
 RefusesSoFar-null soFar is = record { then = λ e h. soFar.then e (rw is h) }
 
--- a refusal at the first of the slots that are left
-pub RefusesSoFar-end : {X S E : Type 0} {allows : X → S → Type 0} {refuses : E → X → Type 0}
-    {slots left rest : List (Option X)} {x : X} (e : E) → RefusesSoFar allows refuses slots left
-    → left ≡ Some x ∷ rest → refuses e x → RefusesFirst allows (refuses e) slots
-RefusesSoFar-end e soFar is refused = soFar.then e (rw is (inl refused))
+-- a fact holds unless memory is wanted
+UnlessMemory-from : (e : Error) (fact : Type 0) → fact → UnlessMemory e fact
+UnlessMemory-from Memory fact h = tt
+UnlessMemory-from _ fact h = h
+
+-- the closure's refusal at the first of the slots that are left
+pub IsFirstRefusal-here : {X R N : Type 0} (numbers : X → N) (post : X → Result R Error → Type 0)
+    {slots left rest : List (Option N)} (x : X) (e : Error)
+    → RefusesSoFar {E = Error} (AnswersWith numbers (λ x r. post x (Ok r)) (λ r. r))
+    (λ e. RefusesWith numbers (λ x. post x (Err e))) slots left
+    → left ≡ Some (numbers x) ∷ rest → post x (Err e)
+    → UnlessMemory e (IsFirstRefusal numbers post slots e)
+IsFirstRefusal-here numbers post x e soFar is h =
+    UnlessMemory-from e _ (soFar.then e (rw is
+    (inl (record { value = x; is_value = refl; refused = h }))))
 
 -- the closure may be called for the values of the slots that are left
 pub callable_rest : {X N : Type 0} (numbers : X → N)
@@ -77,13 +93,8 @@ pub callable_first : {X N : Type 0} (numbers : X → N)
     → left ≡ Some (numbers x) ∷ rest → pre x
 callable_first numbers pre x callable is = callable x (rw is (zero, omega arith, refl))
 
--- a fact holds unless memory is wanted
-pub UnlessMemory-from : (e : Error) (fact : Type 0) → fact → UnlessMemory e fact
-UnlessMemory-from Memory fact h = tt
-UnlessMemory-from _ fact h = h
-
 -- a row more of two lists of one length
-pub zip-push : {X Y : Type 0} (xs : List X) (ys : List Y) (x : X) (y : Y) → length ys ≡ length xs
+zip-push : {X Y : Type 0} (xs : List X) (ys : List Y) (x : X) (y : Y) → length ys ≡ length xs
     → zip (xs ++ x ∷ []) (ys ++ y ∷ []) ≡ zip xs ys ++ (x, y) ∷ []
 zip-push [] [] x y e = refl
 zip-push [] (b ∷ ys) x y e = absurd (omega arith)
@@ -91,16 +102,28 @@ zip-push (a ∷ xs) [] x y e = absurd (omega arith)
 zip-push {X} {Y} (a ∷ xs) (b ∷ ys) x y e =
     ap (λ (rest : List (X × Y)). (a, b) ∷ rest) (zip-push xs ys x y (omega arith))
 
--- both lists with a row more, as pushes leave them
-pub zip-more : {X Y : Type 0} (xs xs' : List X) (ys ys' : List Y) (x : X) (y : Y)
-    → length ys ≡ length xs → xs' ≡ xs ++ x ∷ [] → ys' ≡ ys ++ y ∷ []
-    → zip xs' ys' ≡ zip xs ys ++ (x, y) ∷ []
-zip-more xs xs' ys ys' x y e p q = rw (p, q) (zip-push xs ys x y e)
+-- a value pushed behind others, seen by its numbers
+pub map-more : {T N : Type 0} (numbers : T → N) (values : List T) {values' : List T} {x : T} {ns : N}
+    → values' ≡ values ++ x ∷ [] → numbers x ≡ ns
+    → map numbers values' ≡ map numbers values ++ ns ∷ []
+map-more {N = N} numbers values {x = x} more is =
+    ap (map numbers) more ∙ map_push numbers values x
+    ∙ ap (λ (n : N). map numbers values ++ n ∷ []) is
 
--- and they are as many as one another
-pub length-more : {X Y : Type 0} (xs xs' : List X) (ys ys' : List Y) (x : X) (y : Y)
-    → length ys ≡ length xs → xs' ≡ xs ++ x ∷ [] → ys' ≡ ys ++ y ∷ [] → length ys' ≡ length xs'
-length-more xs xs' ys ys' x y e p q = rw (p, q) (omega (arith, length_push xs x, length_push ys y))
+-- and with a flag beside it
+pub zip-more : {T N : Type 0} (numbers : T → N) (values : List T) (flags : List Bool) (b : Bool)
+    {values' : List T} {flags' : List Bool} {x : T} {ns : N} → length flags ≡ length values
+    → values' ≡ values ++ x ∷ [] → numbers x ≡ ns → flags' ≡ flags ++ b ∷ []
+    → zip (map numbers values') flags' ≡ zip (map numbers values) flags ++ (ns, b) ∷ []
+zip-more numbers values flags b {ns = ns} one_length more is more_flags =
+    rw (map-more numbers values more is, more_flags)
+    (zip-push (map numbers values) flags ns b (one_length ∙ sym (length-map values numbers)))
+
+-- then they are as many as one another again
+pub length-more : {X Y : Type 0} (xs : List X) (ys : List Y) (x : X) (y : Y) {xs' : List X}
+    {ys' : List Y} → length ys ≡ length xs → xs' ≡ xs ++ x ∷ [] → ys' ≡ ys ++ y ∷ [] → length ys' ≡ length xs'
+length-more xs ys x y e p q =
+    rw (p, q) (omega (arith, length_push xs x, length_push ys y))
 
 -- a valid slot's value is stored at its row
 at_masked : (values : List (List ℤ)) (flags : List Bool) (k : ℕ) (ns : List ℤ)

@@ -1,5 +1,4 @@
-use Rattle.std.proofs.Common.{refl}
-use Rattle.col_arity.proofs.RowLemmas.{MapsSoFar-end, MapsSoFar-null, MapsSoFar-value, callable_first, callable_rest}
+use Rattle.col_arity.proofs.RowLemmas.{AnswersWith-of, MapsSoFar-end, MapsSoFar-null, MapsSoFar-value, callable_first, callable_rest}
 use Rattle.col_arity.proofs.arity.checked.rows.Goals as goal
 
 pub op-answer-requires : goal.op-answer-requires
@@ -24,13 +23,7 @@ loop-slot-preserved-in-Continue-branch-2 g c =
     record {
       callable = callable_rest _ _ c.loop-slot.invariant.callable next;
       rows = MapsSoFar-value c.loop-slot.invariant.rows is
-          (record {
-            value = c.in-Some-slot.value;
-            answer = c.op-answer.result;
-            is_value = refl;
-            answers = c.op-answer.ensures;
-            is_answer = refl;
-          })
+          (AnswersWith-of c.in-Some-slot.value c.op-answer.result c.op-answer.ensures)
           c.in_ok-push-in-Some-slot.ensures.value;
     }
 

@@ -1,7 +1,6 @@
 use Rattle.std.proofs.Common.{refl}
 use Rattle.std.proofs.lemmas.Result.{err_from_is_err_and}
-use Rattle.col_arity.proofs.BeneathLemmas.{map-more}
-use Rattle.col_arity.proofs.RowLemmas.{MapsSoFar-end, MapsSoFar-null, MapsSoFar-value, RefusesSoFar-end, RefusesSoFar-null, RefusesSoFar-value, UnlessMemory-from, callable_first, callable_rest}
+use Rattle.col_arity.proofs.RowLemmas.{AnswersWith-of, IsFirstRefusal-here, MapsSoFar-end, MapsSoFar-null, MapsSoFar-value, RefusesSoFar-null, RefusesSoFar-value, callable_first, callable_rest, map-more}
 use Rattle.col_arity.proofs.arity.fallible.rows.Goals as goal
 
 pub op-requires : goal.op-requires
@@ -17,7 +16,7 @@ loop-slot-preserved g c =
     record {
       callable = callable_rest _ _ c.loop-slot.invariant.callable next;
       rows = MapsSoFar-null c.loop-slot.invariant.rows is
-          (map-more g.O.NativeType.numbers _ _ _ _ c.in_ok-push-in-None-slot.ensures.items
+          (map-more g.O.NativeType.numbers _ c.in_ok-push-in-None-slot.ensures.items
           c.zero.ensures);
       refusals = RefusesSoFar-null c.loop-slot.invariant.refusals is;
     }
@@ -29,23 +28,12 @@ loop-slot-preserved-in-Continue-branch-3 g c =
     record {
       callable = callable_rest _ _ c.loop-slot.invariant.callable next;
       rows = MapsSoFar-value c.loop-slot.invariant.rows is
-          (record {
-            value = c.in-Some-slot.value;
-            answer = c.in_ok-answer-in-Some-slot.answer;
-            is_value = refl;
-            answers = c.in_ok-answer-in-Some-slot.ensures;
-            is_answer = refl;
-          })
-          (map-more g.O.NativeType.numbers _ _ _ _ c.in_ok-push-in-Some-slot.ensures.items refl);
-      refusals = RefusesSoFar-value {s = c.in_ok-answer-in-Some-slot.answer}
-          c.loop-slot.invariant.refusals is
-          (record {
-            value = c.in-Some-slot.value;
-            answer = c.in_ok-answer-in-Some-slot.answer;
-            is_value = refl;
-            answers = c.in_ok-answer-in-Some-slot.ensures;
-            is_answer = refl;
-          });
+          (AnswersWith-of c.in-Some-slot.value c.in_ok-answer-in-Some-slot.answer
+          c.in_ok-answer-in-Some-slot.ensures)
+          (map-more g.O.NativeType.numbers _ c.in_ok-push-in-Some-slot.ensures.items refl);
+      refusals = RefusesSoFar-value c.loop-slot.invariant.refusals is
+          (AnswersWith-of c.in-Some-slot.value c.in_ok-answer-in-Some-slot.answer
+          c.in_ok-answer-in-Some-slot.ensures);
     }
 
 pub returns-in_err-answer-in-Some-slot-clause-refused : goal.returns-in_err-answer-in-Some-slot-clause-refused
@@ -54,14 +42,9 @@ returns-in_err-answer-in-Some-slot-clause-refused g c =
     c.from_residual-in_err-answer-in-Some-slot.ensures.1 in
     let next = g.met.S.Rows.gives _ _ _ c.in-Some.ensures.steps in
     let is = rw c.in-Some-slot.is at next in
-    let e = c.in_err-answer-in-Some-slot.field-0.0 in
-    rw (p.1, p.2) (UnlessMemory-from e _ (RefusesSoFar-end e c.loop-slot.invariant.refusals is
-    (record {
-      value = c.in-Some-slot.value;
-      is_value = refl;
-      refused =
-          c.in_err-answer-in-Some-slot.ensures;
-    })))
+    rw (p.1, p.2) (IsFirstRefusal-here g.S.Rows.seen (λ x r. goal.F-post g c.args.op x r)
+    c.in-Some-slot.value c.in_err-answer-in-Some-slot.field-0.0
+    c.loop-slot.invariant.refusals is c.in_err-answer-in-Some-slot.ensures)
 
 pub returns-clause-answer : goal.returns-clause-answer
 returns-clause-answer g c =

@@ -1,7 +1,5 @@
-use Rattle.std.proofs.Common.{refl, sym, ◌∙◌}
-use Rattle.std.proofs.lemmas.List.{length-map}
-use Rattle.col_arity.proofs.BeneathLemmas.{map-more}
-use Rattle.col_arity.proofs.RowLemmas.{MapsSoFar-end, MapsSoFar-null, MapsSoFar-value, callable_first, callable_rest, length-more, zip-more}
+use Rattle.std.proofs.Common.{refl}
+use Rattle.col_arity.proofs.RowLemmas.{AnswersWith-of, MapsSoFar-end, MapsSoFar-null, MapsSoFar-value, callable_first, callable_rest, length-more, zip-more}
 use Rattle.col_arity.proofs.arity.flagged.rows.Goals as goal
 
 pub op-answer-requires : goal.op-answer-requires
@@ -17,10 +15,10 @@ loop-slot-preserved g c =
     record {
       callable = callable_rest _ _ c.loop-slot.invariant.callable next;
       rows = MapsSoFar-null c.loop-slot.invariant.rows is
-          (zip-more _ _ _ _ _ _ (c.loop-slot.invariant.one_length ∙ sym (length-map _ _))
-          (map-more g.O.NativeType.numbers _ _ _ _ c.in_ok-push-in-None-slot.ensures.items
-          c.zero.ensures) c.in_ok-push-in-None-slot-2.ensures.items);
-      one_length = length-more _ _ _ _ _ _ c.loop-slot.invariant.one_length
+          (zip-more g.O.NativeType.numbers _ _ _ c.loop-slot.invariant.one_length
+          c.in_ok-push-in-None-slot.ensures.items c.zero.ensures
+          c.in_ok-push-in-None-slot-2.ensures.items);
+      one_length = length-more _ _ _ _ c.loop-slot.invariant.one_length
           c.in_ok-push-in-None-slot.ensures.items c.in_ok-push-in-None-slot-2.ensures.items;
     }
 
@@ -31,17 +29,10 @@ loop-slot-preserved-in-Continue-branch-4 g c =
     record {
       callable = callable_rest _ _ c.loop-slot.invariant.callable next;
       rows = MapsSoFar-value c.loop-slot.invariant.rows is
-          (record {
-            value = c.in-Some-slot.value;
-            answer = c.op-answer.result;
-            is_value = refl;
-            answers = c.op-answer.ensures;
-            is_answer = refl;
-          })
-          (zip-more _ _ _ _ _ _ (c.loop-slot.invariant.one_length ∙ sym (length-map _ _))
-          (map-more g.O.NativeType.numbers _ _ _ _ c.in_ok-push-in-Some-slot.ensures.items refl)
-          c.in_ok-push-in-Some-slot-2.ensures.items);
-      one_length = length-more _ _ _ _ _ _ c.loop-slot.invariant.one_length
+          (AnswersWith-of c.in-Some-slot.value c.op-answer.result c.op-answer.ensures)
+          (zip-more g.O.NativeType.numbers _ _ _ c.loop-slot.invariant.one_length
+          c.in_ok-push-in-Some-slot.ensures.items refl c.in_ok-push-in-Some-slot-2.ensures.items);
+      one_length = length-more _ _ _ _ c.loop-slot.invariant.one_length
           c.in_ok-push-in-Some-slot.ensures.items c.in_ok-push-in-Some-slot-2.ensures.items;
     }
 

@@ -1,6 +1,5 @@
 use Rattle.std.proofs.Common.{refl}
-use Rattle.col_arity.proofs.BeneathLemmas.{map-more}
-use Rattle.col_arity.proofs.RowLemmas.{MapsSoFar-end, MapsSoFar-null, MapsSoFar-value, callable_first, callable_rest}
+use Rattle.col_arity.proofs.RowLemmas.{AnswersWith-of, MapsSoFar-end, MapsSoFar-null, MapsSoFar-value, callable_first, callable_rest, map-more}
 use Rattle.col_arity.proofs.arity.mapped.rows.Goals as goal
 
 pub op-answer-requires : goal.op-answer-requires
@@ -16,7 +15,7 @@ loop-slot-preserved g c =
     record {
       callable = callable_rest _ _ c.loop-slot.invariant.callable next;
       rows = MapsSoFar-null c.loop-slot.invariant.rows is
-          (map-more g.O.NativeType.numbers _ _ _ _ c.in_ok-push-in-None-slot.ensures.items
+          (map-more g.O.NativeType.numbers _ c.in_ok-push-in-None-slot.ensures.items
           c.zero.ensures);
     }
 
@@ -27,14 +26,8 @@ loop-slot-preserved-in-Continue-branch-2 g c =
     record {
       callable = callable_rest _ _ c.loop-slot.invariant.callable next;
       rows = MapsSoFar-value c.loop-slot.invariant.rows is
-          (record {
-            value = c.in-Some-slot.value;
-            answer = c.op-answer.result;
-            is_value = refl;
-            answers = c.op-answer.ensures;
-            is_answer = refl;
-          })
-          (map-more g.O.NativeType.numbers _ _ _ _ c.in_ok-push-in-Some-slot.ensures.items refl);
+          (AnswersWith-of c.in-Some-slot.value c.op-answer.result c.op-answer.ensures)
+          (map-more g.O.NativeType.numbers _ c.in_ok-push-in-Some-slot.ensures.items refl);
     }
 
 pub returns-clause-answer : goal.returns-clause-answer
