@@ -7,7 +7,7 @@ use Rattle.col_types.specs.Answer.{UnlessMemory}
 use Rattle.col_types.specs.declared.error.Error.{Error}
 use Rattle.col_types.specs.declared.error.Error.TheVariants.{Memory}
 use Rattle.col_flat.specs.Parts.{masked_slots, zipped_slots}
-use Rattle.col_arity.specs.Rows.{AnswersWith, IsCallableAtStored, IsCallableAtValid, IsFirstRefusal, MapsSlots, RefusesFirst, RefusesWith}
+use Rattle.col_arity.specs.Rows.{AnswersWith, IsCallableAtStored, IsCallableAtValid, IsFirstRefusal, MapsSlots}
 
 -- what follows what was made for the front of the slots is what is made for those that are left
 pub record MapsSoFar {X S : Type 0} (allows : X → S → Type 0) (none : S)
@@ -15,14 +15,21 @@ pub record MapsSoFar {X S : Type 0} (allows : X → S → Type 0) (none : S)
   pub then : (later : List S) → MapsSlots allows none left later
       → MapsSlots allows none slots (made ++ later)
 
--- one value on
-pub MapsSoFar-value : {X S : Type 0} {allows : X → S → Type 0} {none : S}
-    {slots left rest : List (Option X)} {made next : List S} {x : X} {s : S}
-    → MapsSoFar allows none slots left made → left ≡ Some x ∷ rest → allows x s
-    → next ≡ made ++ s ∷ [] → MapsSoFar allows none slots rest next
-MapsSoFar-value {made = made} {s = s} soFar is allowed more = record {
-  then = λ later h. rw (more, append_assoc made (s ∷ []) later)
-      (soFar.then (s ∷ later) (rw is (allowed, h)));
+-- a value is answered as the closure answers it
+AnswersWith-of : {X R N S : Type 0} {numbers : X → N} {post : X → R → Type 0} {seen : R → S}
+    (x : X) (r : R) → post x r → AnswersWith numbers post seen (numbers x) (seen r)
+AnswersWith-of x r h =
+    record { value = x; answer = r; is_value = refl; answers = h; is_answer = refl }
+
+-- one value on, with the closure's answer
+pub MapsSoFar-value : {X R N S : Type 0} {numbers : X → N} {post : X → R → Type 0} {seen : R → S}
+    {none : S} {slots left rest : List (Option N)} {made next : List S} (x : X) (r : R)
+    → MapsSoFar (AnswersWith numbers post seen) none slots left made
+    → left ≡ Some (numbers x) ∷ rest → post x r → next ≡ made ++ seen r ∷ []
+    → MapsSoFar (AnswersWith numbers post seen) none slots rest next
+MapsSoFar-value {seen = seen} {made = made} x r soFar is answered more = record {
+  then = λ later h. rw (more, append_assoc made (seen r ∷ []) later)
+      (soFar.then (seen r ∷ later) (rw is (AnswersWith-of x r answered, h)));
 }
 
 -- one null on
@@ -34,12 +41,6 @@ MapsSoFar-null {none = none} {made = made} soFar is more = record {
       (soFar.then (none ∷ later) (rw is (refl, h)));
 }
 
--- a value is answered as the closure answers it
-pub AnswersWith-of : {X R N S : Type 0} {numbers : X → N} {post : X → R → Type 0} {seen : R → S}
-    (x : X) (r : R) → post x r → AnswersWith numbers post seen (numbers x) (seen r)
-AnswersWith-of x r h =
-    record { value = x; answer = r; is_value = refl; answers = h; is_answer = refl }
-
 -- at the end all is made
 pub MapsSoFar-end : {X S : Type 0} {allows : X → S → Type 0} {none : S}
     {slots left : List (Option X)} {made : List S} → MapsSoFar allows none slots left made
@@ -47,21 +48,21 @@ pub MapsSoFar-end : {X S : Type 0} {allows : X → S → Type 0} {none : S}
 MapsSoFar-end soFar is = rw append-nil at (soFar.then [] (rw is tt))
 
 -- what is refused first among the slots that are left is refused first among all
-pub record RefusesSoFar {X S E : Type 0} (allows : X → S → Type 0) (refuses : E → X → Type 0)
-    (slots left : List (Option X)) : Type 0 where
-  pub then : (e : E) → RefusesFirst allows (refuses e) left → RefusesFirst allows (refuses e) slots
+pub record RefusesSoFar {X R N : Type 0} (numbers : X → N) (post : X → Result R Error → Type 0)
+    (slots left : List (Option N)) : Type 0 where
+  pub then : (e : Error) → IsFirstRefusal numbers post left e → IsFirstRefusal numbers post slots e
 
--- one value on, which is not refused
-pub RefusesSoFar-value : {X S E : Type 0} {allows : X → S → Type 0} {refuses : E → X → Type 0}
-    {slots left rest : List (Option X)} {x : X} {s : S} → RefusesSoFar allows refuses slots left
-    → left ≡ Some x ∷ rest → allows x s → RefusesSoFar allows refuses slots rest
-RefusesSoFar-value {s = s} soFar is allowed =
-    record { then = λ e h. soFar.then e (rw is (inr ((s, allowed), h))) }
+-- one value on, which the closure answers
+pub RefusesSoFar-value : {X R N : Type 0} {numbers : X → N} {post : X → Result R Error → Type 0}
+    {slots left rest : List (Option N)} (x : X) (r : R) → RefusesSoFar numbers post slots left
+    → left ≡ Some (numbers x) ∷ rest → post x (Ok r) → RefusesSoFar numbers post slots rest
+RefusesSoFar-value x r soFar is answered =
+    record { then = λ e h. soFar.then e (rw is (inr ((r, AnswersWith-of x r answered), h))) }
 
 -- one null on
-pub RefusesSoFar-null : {X S E : Type 0} {allows : X → S → Type 0} {refuses : E → X → Type 0}
-    {slots left rest : List (Option X)} → RefusesSoFar allows refuses slots left
-    → left ≡ None ∷ rest → RefusesSoFar allows refuses slots rest
+pub RefusesSoFar-null : {X R N : Type 0} {numbers : X → N} {post : X → Result R Error → Type 0}
+    {slots left rest : List (Option N)} → RefusesSoFar numbers post slots left
+    → left ≡ None ∷ rest → RefusesSoFar numbers post slots rest
 RefusesSoFar-null soFar is = record { then = λ e h. soFar.then e (rw is h) }
 
 -- a fact holds unless memory is wanted
@@ -70,15 +71,12 @@ UnlessMemory-from Memory fact h = tt
 UnlessMemory-from _ fact h = h
 
 -- the closure's refusal at the first of the slots that are left
-pub IsFirstRefusal-here : {X R N : Type 0} (numbers : X → N) (post : X → Result R Error → Type 0)
-    {slots left rest : List (Option N)} (x : X) (e : Error)
-    → RefusesSoFar {E = Error} (AnswersWith numbers (λ x r. post x (Ok r)) (λ r. r))
-    (λ e. RefusesWith numbers (λ x. post x (Err e))) slots left
+pub RefusesSoFar-end : {X R N : Type 0} {numbers : X → N} {post : X → Result R Error → Type 0}
+    {slots left rest : List (Option N)} (x : X) (e : Error) → RefusesSoFar numbers post slots left
     → left ≡ Some (numbers x) ∷ rest → post x (Err e)
     → UnlessMemory e (IsFirstRefusal numbers post slots e)
-IsFirstRefusal-here numbers post x e soFar is h =
-    UnlessMemory-from e _ (soFar.then e (rw is
-    (inl (record { value = x; is_value = refl; refused = h }))))
+RefusesSoFar-end x e soFar is h = UnlessMemory-from e _
+    (soFar.then e (rw is (inl (record { value = x; is_value = refl; refused = h }))))
 
 -- the closure may be called for the values of the slots that are left
 pub callable_rest : {X N : Type 0} (numbers : X → N)

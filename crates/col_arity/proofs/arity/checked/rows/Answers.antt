@@ -1,4 +1,4 @@
-use Rattle.col_arity.proofs.RowLemmas.{AnswersWith-of, MapsSoFar-end, MapsSoFar-null, MapsSoFar-value, callable_first, callable_rest}
+use Rattle.col_arity.proofs.RowLemmas.{MapsSoFar-end, MapsSoFar-null, MapsSoFar-value, callable_first, callable_rest}
 use Rattle.col_arity.proofs.arity.checked.rows.Goals as goal
 
 pub op-answer-requires : goal.op-answer-requires
@@ -22,8 +22,8 @@ loop-slot-preserved-in-Continue-branch-2 g c =
     let is = rw c.in-Some-slot.is at next in
     record {
       callable = callable_rest _ _ c.loop-slot.invariant.callable next;
-      rows = MapsSoFar-value c.loop-slot.invariant.rows is
-          (AnswersWith-of c.in-Some-slot.value c.op-answer.result c.op-answer.ensures)
+      rows = MapsSoFar-value c.in-Some-slot.value c.op-answer.result
+          c.loop-slot.invariant.rows is c.op-answer.ensures
           c.in_ok-push-in-Some-slot.ensures.value;
     }
 

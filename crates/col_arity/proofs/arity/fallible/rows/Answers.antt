@@ -1,6 +1,6 @@
 use Rattle.std.proofs.Common.{refl}
 use Rattle.std.proofs.lemmas.Result.{err_from_is_err_and}
-use Rattle.col_arity.proofs.RowLemmas.{AnswersWith-of, IsFirstRefusal-here, MapsSoFar-end, MapsSoFar-null, MapsSoFar-value, RefusesSoFar-null, RefusesSoFar-value, callable_first, callable_rest, map-more}
+use Rattle.col_arity.proofs.RowLemmas.{MapsSoFar-end, MapsSoFar-null, MapsSoFar-value, RefusesSoFar-end, RefusesSoFar-null, RefusesSoFar-value, callable_first, callable_rest, map-more}
 use Rattle.col_arity.proofs.arity.fallible.rows.Goals as goal
 
 pub op-requires : goal.op-requires
@@ -27,23 +27,21 @@ loop-slot-preserved-in-Continue-branch-3 g c =
     let is = rw c.in-Some-slot.is at next in
     record {
       callable = callable_rest _ _ c.loop-slot.invariant.callable next;
-      rows = MapsSoFar-value c.loop-slot.invariant.rows is
-          (AnswersWith-of c.in-Some-slot.value c.in_ok-answer-in-Some-slot.answer
-          c.in_ok-answer-in-Some-slot.ensures)
+      rows = MapsSoFar-value c.in-Some-slot.value _ c.loop-slot.invariant.rows is
+          c.in_ok-answer-in-Some-slot.ensures
           (map-more g.O.NativeType.numbers _ c.in_ok-push-in-Some-slot.ensures.items refl);
-      refusals = RefusesSoFar-value c.loop-slot.invariant.refusals is
-          (AnswersWith-of c.in-Some-slot.value c.in_ok-answer-in-Some-slot.answer
-          c.in_ok-answer-in-Some-slot.ensures);
+      refusals = RefusesSoFar-value c.in-Some-slot.value _ c.loop-slot.invariant.refusals is
+          c.in_ok-answer-in-Some-slot.ensures;
     }
 
-pub returns-in_err-answer-in-Some-slot-clause-refused : goal.returns-in_err-answer-in-Some-slot-clause-refused
+pub returns-in_err-answer-in-Some-slot-clause-refused
+    : goal.returns-in_err-answer-in-Some-slot-clause-refused
 returns-in_err-answer-in-Some-slot-clause-refused g c =
     let p = err_from_is_err_and c.from_residual-in_err-answer-in-Some-slot.result
     c.from_residual-in_err-answer-in-Some-slot.ensures.1 in
     let next = g.met.S.Rows.gives _ _ _ c.in-Some.ensures.steps in
     let is = rw c.in-Some-slot.is at next in
-    rw (p.1, p.2) (IsFirstRefusal-here g.S.Rows.seen (λ x r. goal.F-post g c.args.op x r)
-    c.in-Some-slot.value c.in_err-answer-in-Some-slot.field-0.0
+    rw (p.1, p.2) (RefusesSoFar-end c.in-Some-slot.value c.in_err-answer-in-Some-slot.field-0.0
     c.loop-slot.invariant.refusals is c.in_err-answer-in-Some-slot.ensures)
 
 pub returns-clause-answer : goal.returns-clause-answer

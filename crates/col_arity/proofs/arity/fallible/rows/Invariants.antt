@@ -1,6 +1,5 @@
-use Rattle.std.proofs.Common.{Err, Ok, map}
-use Rattle.col_types.specs.declared.error.Error.{Error}
-use Rattle.col_arity.specs.Rows.{AnswersWith, IsCallableAtValid, RefusesWith, zero_numbers}
+use Rattle.std.proofs.Common.{Ok, map}
+use Rattle.col_arity.specs.Rows.{AnswersWith, IsCallableAtValid, zero_numbers}
 use Rattle.col_arity.proofs.RowLemmas.{MapsSoFar, RefusesSoFar}
 use Rattle.col_arity.proofs.arity.fallible.rows.Given as goal
 
@@ -14,8 +13,6 @@ invariant-loop-slot g l = record {
       (λ r. g.O.NativeType.numbers r))
       (zero_numbers g.O.NativeType.field_types) (g.S.Rows.left l.fn.slots)
       (g.S.Rows.left l.slot-iterator) (map g.O.NativeType.numbers l.values.items);
-  refusals : RefusesSoFar {E = Error}
-      (AnswersWith g.S.Rows.seen (λ x r. goal.F-post g l.fn.op x (Ok r)) (λ r. r))
-      (λ e. RefusesWith g.S.Rows.seen (λ x. goal.F-post g l.fn.op x (Err e)))
+  refusals : RefusesSoFar g.S.Rows.seen (λ x r. goal.F-post g l.fn.op x r)
       (g.S.Rows.left l.fn.slots) (g.S.Rows.left l.slot-iterator);
 }

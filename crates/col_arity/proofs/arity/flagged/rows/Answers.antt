@@ -1,5 +1,5 @@
 use Rattle.std.proofs.Common.{refl}
-use Rattle.col_arity.proofs.RowLemmas.{AnswersWith-of, MapsSoFar-end, MapsSoFar-null, MapsSoFar-value, callable_first, callable_rest, length-more, zip-more}
+use Rattle.col_arity.proofs.RowLemmas.{MapsSoFar-end, MapsSoFar-null, MapsSoFar-value, callable_first, callable_rest, length-more, zip-more}
 use Rattle.col_arity.proofs.arity.flagged.rows.Goals as goal
 
 pub op-answer-requires : goal.op-answer-requires
@@ -28,8 +28,8 @@ loop-slot-preserved-in-Continue-branch-4 g c =
     let is = rw c.in-Some-slot.is at next in
     record {
       callable = callable_rest _ _ c.loop-slot.invariant.callable next;
-      rows = MapsSoFar-value c.loop-slot.invariant.rows is
-          (AnswersWith-of c.in-Some-slot.value c.op-answer.result c.op-answer.ensures)
+      rows = MapsSoFar-value c.in-Some-slot.value c.op-answer.result
+          c.loop-slot.invariant.rows is c.op-answer.ensures
           (zip-more g.O.NativeType.numbers _ _ _ c.loop-slot.invariant.one_length
           c.in_ok-push-in-Some-slot.ensures.items refl c.in_ok-push-in-Some-slot-2.ensures.items);
       one_length = length-more _ _ _ _ c.loop-slot.invariant.one_length

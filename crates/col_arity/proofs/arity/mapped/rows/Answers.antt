@@ -1,5 +1,5 @@
 use Rattle.std.proofs.Common.{refl}
-use Rattle.col_arity.proofs.RowLemmas.{AnswersWith-of, MapsSoFar-end, MapsSoFar-null, MapsSoFar-value, callable_first, callable_rest, map-more}
+use Rattle.col_arity.proofs.RowLemmas.{MapsSoFar-end, MapsSoFar-null, MapsSoFar-value, callable_first, callable_rest, map-more}
 use Rattle.col_arity.proofs.arity.mapped.rows.Goals as goal
 
 pub op-answer-requires : goal.op-answer-requires
@@ -25,8 +25,8 @@ loop-slot-preserved-in-Continue-branch-2 g c =
     let is = rw c.in-Some-slot.is at next in
     record {
       callable = callable_rest _ _ c.loop-slot.invariant.callable next;
-      rows = MapsSoFar-value c.loop-slot.invariant.rows is
-          (AnswersWith-of c.in-Some-slot.value c.op-answer.result c.op-answer.ensures)
+      rows = MapsSoFar-value c.in-Some-slot.value c.op-answer.result
+          c.loop-slot.invariant.rows is c.op-answer.ensures
           (map-more g.O.NativeType.numbers _ c.in_ok-push-in-Some-slot.ensures.items refl);
     }
 
