@@ -1,5 +1,6 @@
 -- Facts on answers whose nulls are those of the arrays that they are made from.
-use Rattle.std.proofs.Common.{◌≡◌, suc, ℤ, Bool, false, List, [], ◌∷◌, length, map, is_some, Option, Some, None, unwrap_or, refl, sym, ap, ◌∙◌, arith}
+use Rattle.std.proofs.Common.{◌≡◌, suc, ℤ, Bool, false, List, [], ◌∷◌, length, map, is_some, Option}
+use Rattle.std.proofs.Common.{Some, None, unwrap_or, refl, sym, ap, ◌∙◌, arith}
 use Rattle.std.specs.List.{zip}
 use Rattle.std.proofs.lemmas.List.{length-map}
 use Rattle.col_types.specs.DataKind.{DataKind}

@@ -1,5 +1,7 @@
 -- Facts on what a closure gives for the rows of arrays.
-use Rattle.std.proofs.Common.{◌≡◌, ℕ, zero, suc, ◌<◌, ℤ, Bool, true, false, List, [], ◌∷◌, ◌++◌, length, map, get_or, Option, Some, None, Result, Ok, Err, refl, sym, ap, ◌∙◌, arith, inl, inr}
+use Rattle.std.proofs.Common.{◌≡◌, ℕ, zero, suc, ◌<◌, ℤ, Bool, true, false, List, [], ◌∷◌, ◌++◌}
+use Rattle.std.proofs.Common.{length, map, get_or, Option, Some, None, Result, Ok, Err, refl, sym}
+use Rattle.std.proofs.Common.{ap, ◌∙◌, arith, inl, inr}
 use Rattle.std.specs.List.{zip}
 use Rattle.std.proofs.lemmas.List.{append-nil, append_assoc, length-map, length_push, map_push}
 use Rattle.std.proofs.lemmas.Option.{some_pair_parts}
@@ -7,7 +9,8 @@ use Rattle.col_types.specs.Answer.{UnlessMemory}
 use Rattle.col_types.specs.declared.error.Error.{Error}
 use Rattle.col_types.specs.declared.error.Error.TheVariants.{Memory}
 use Rattle.col_flat.specs.Parts.{masked_slots, zipped_slots}
-use Rattle.col_arity.specs.Rows.{AnswersWith, IsCallableAtStored, IsCallableAtValid, IsFirstRefusal, MapsSlots}
+use Rattle.col_arity.specs.Rows.{AnswersWith, IsCallableAtStored, IsCallableAtValid, IsFirstRefusal}
+use Rattle.col_arity.specs.Rows.{MapsSlots}
 
 -- what follows what was made for the front of the slots is what is made for those that are left
 pub record MapsSoFar {X S : Type 0} (allows : X → S → Type 0) (none : S)
@@ -101,8 +104,8 @@ zip-push {X} {Y} (a ∷ xs) (b ∷ ys) x y e =
     ap (λ (rest : List (X × Y)). (a, b) ∷ rest) (zip-push xs ys x y (omega arith))
 
 -- a value pushed behind others, seen by its numbers
-pub map-more : {T N : Type 0} (numbers : T → N) (values : List T) {values' : List T} {x : T} {ns : N}
-    → values' ≡ values ++ x ∷ [] → numbers x ≡ ns
+pub map-more : {T N : Type 0} (numbers : T → N) (values : List T) {values' : List T} {x : T}
+    {ns : N} → values' ≡ values ++ x ∷ [] → numbers x ≡ ns
     → map numbers values' ≡ map numbers values ++ ns ∷ []
 map-more {N = N} numbers values {x = x} more is =
     ap (map numbers) more ∙ map_push numbers values x
@@ -119,7 +122,8 @@ zip-more numbers values flags b {ns = ns} one_length more is more_flags =
 
 -- then they are as many as one another again
 pub length-more : {X Y : Type 0} (xs : List X) (ys : List Y) (x : X) (y : Y) {xs' : List X}
-    {ys' : List Y} → length ys ≡ length xs → xs' ≡ xs ++ x ∷ [] → ys' ≡ ys ++ y ∷ [] → length ys' ≡ length xs'
+    {ys' : List Y} → length ys ≡ length xs → xs' ≡ xs ++ x ∷ [] → ys' ≡ ys ++ y ∷ []
+    → length ys' ≡ length xs'
 length-more xs ys x y e p q =
     rw (p, q) (omega (arith, length_push xs x, length_push ys y))
 

@@ -1,12 +1,14 @@
 //! Kernels that call a closure on the values of one array or of two.
-ghost use Rattle.std.specs.Prelude.{◌≡◌, ◌≢◌, ◌↔◌, IsOk, ◌⊎◌, IfErr, IfOk, Ok, Err, Some, option_map};
+ghost use Rattle.std.specs.Prelude.{◌≡◌, ◌≢◌, ◌↔◌, IsOk, ◌⊎◌, IfErr, IfOk, Ok, Err, Some};
+ghost use Rattle.std.specs.Prelude.{option_map};
 ghost use Rattle.col_types.specs.Answer.{ButForMemory, FailsByMemory, RefusedWhere, UnlessMemory};
 ghost use Rattle.col_types.specs.declared.error.Reason.TheVariants.{Lengths};
 ghost use Rattle.col_types.specs.Column.{row_count};
 ghost use Rattle.col_types.specs.DataKind.{kind_of};
 ghost use Rattle.col_types.specs.DataType.{IsMadeOf};
 ghost use Rattle.col_flat.specs.Parts.{column_of, pair_numbers, slot_pairs, slots_of};
-ghost use Rattle.col_arity.specs.Rows.{AnswersWith, IsCallableAtValid, IsFirstRefusal, IsLengths, IsMapped, IsMappedWithFlags};
+ghost use Rattle.col_arity.specs.Rows.{AnswersWith, IsCallableAtValid, IsFirstRefusal, IsLengths};
+ghost use Rattle.col_arity.specs.Rows.{IsMapped, IsMappedWithFlags};
 
 mod checked;
 mod fallible;

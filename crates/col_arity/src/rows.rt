@@ -6,19 +6,24 @@ ghost use Rattle.col_flat.specs.Parts.{pair_numbers};
 use col_flat::{SlotIter, SlotPairs};
 use col_types::NativeType;
 
-// Rows that are left: null, or what a closure is called for, which is seen as its numbers.
+// The rows that are left of one array or of two: null, or what a closure is called for.
 pub(crate) trait Rows<X>: Iterator<Item = Option<X>> {
+    // What a closure is called for, as contracts see it: its numbers.
     ghost Seen: { Type 0 };
 
     ghost seen: { X → Seen };
 
+    // The rows that are left, as contracts see them.
     ghost left: { Self → List (Option Seen) };
 
+    // A row can be asked for at any time.
     ghost can: { (s : Self) → Self.can_next s };
 
+    // What comes is the first of the rows that are left.
     ghost gives: { (s : Self) (r : Option (Option X)) (t : Self)
         → Self.next_gives s r t → YieldsFirstBy (option_map seen) left s r t };
 
+    // The rows come to an end.
     ghost ends: { (s : Self) → IsFinite (Self.remaining s) };
 }
 

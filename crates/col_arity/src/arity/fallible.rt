@@ -1,7 +1,8 @@
 //! The values of what `try_unary` and `try_binary` answer.
 ghost use Rattle.std.specs.Prelude.{IfErr, IfOk, Ok, map};
 ghost use Rattle.col_types.specs.Answer.{UnlessMemory};
-ghost use Rattle.col_arity.specs.Rows.{AnswersWith, IsCallableAtValid, IsFirstRefusal, MapsSlots, zero_numbers};
+ghost use Rattle.col_arity.specs.Rows.{AnswersWith, IsCallableAtValid, IsFirstRefusal, MapsSlots};
+ghost use Rattle.col_arity.specs.Rows.{zero_numbers};
 
 use crate::rows::Rows;
 use col_types::{Error, NativeType};

@@ -1,4 +1,5 @@
-use Rattle.col_arity.proofs.RowLemmas.{MapsSoFar-end, MapsSoFar-null, MapsSoFar-value, callable_first, callable_rest}
+use Rattle.col_arity.proofs.RowLemmas.{MapsSoFar-end, MapsSoFar-null, MapsSoFar-value}
+use Rattle.col_arity.proofs.RowLemmas.{callable_first, callable_rest}
 use Rattle.col_arity.proofs.arity.checked.rows.Goals as goal
 
 pub op-answer-requires : goal.op-answer-requires

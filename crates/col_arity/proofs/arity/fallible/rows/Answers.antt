@@ -1,6 +1,8 @@
 use Rattle.std.proofs.Common.{refl}
 use Rattle.std.proofs.lemmas.Result.{err_from_is_err_and}
-use Rattle.col_arity.proofs.RowLemmas.{MapsSoFar-end, MapsSoFar-null, MapsSoFar-value, RefusesSoFar-end, RefusesSoFar-null, RefusesSoFar-value, callable_first, callable_rest, map-more}
+use Rattle.col_arity.proofs.RowLemmas.{MapsSoFar-end, MapsSoFar-null, MapsSoFar-value}
+use Rattle.col_arity.proofs.RowLemmas.{RefusesSoFar-end, RefusesSoFar-null, RefusesSoFar-value}
+use Rattle.col_arity.proofs.RowLemmas.{callable_first, callable_rest, map-more}
 use Rattle.col_arity.proofs.arity.fallible.rows.Goals as goal
 
 pub op-requires : goal.op-requires

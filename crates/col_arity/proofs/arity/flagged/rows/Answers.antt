@@ -1,5 +1,6 @@
 use Rattle.std.proofs.Common.{refl}
-use Rattle.col_arity.proofs.RowLemmas.{MapsSoFar-end, MapsSoFar-null, MapsSoFar-value, callable_first, callable_rest, length-more, zip-more}
+use Rattle.col_arity.proofs.RowLemmas.{MapsSoFar-end, MapsSoFar-null, MapsSoFar-value}
+use Rattle.col_arity.proofs.RowLemmas.{callable_first, callable_rest, length-more, zip-more}
 use Rattle.col_arity.proofs.arity.flagged.rows.Goals as goal
 
 pub op-answer-requires : goal.op-answer-requires

@@ -1,5 +1,6 @@
 use Rattle.std.proofs.Common.{refl}
-use Rattle.col_arity.proofs.RowLemmas.{MapsSoFar-end, MapsSoFar-null, MapsSoFar-value, callable_first, callable_rest, map-more}
+use Rattle.col_arity.proofs.RowLemmas.{MapsSoFar-end, MapsSoFar-null, MapsSoFar-value}
+use Rattle.col_arity.proofs.RowLemmas.{callable_first, callable_rest, map-more}
 use Rattle.col_arity.proofs.arity.mapped.rows.Goals as goal
 
 pub op-answer-requires : goal.op-answer-requires
