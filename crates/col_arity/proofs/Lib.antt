@@ -1,2 +1,2 @@
-pub mod MaskLemmas
+pub mod BeneathLemmas
 pub mod RowLemmas

@@ -1,5 +1,6 @@
 -- What a closure gives for the rows of arrays.
-use Rattle.std.specs.Prelude.{◌≡◌, ◌≢◌, Bool, false, ℤ, pos, List, [], ◌∷◌, length, map, Contains, zip, Option, Some, None, Result, Ok, Err, ⊤, ◌⊎◌}
+use Rattle.std.specs.Prelude.{◌≡◌, ◌≢◌, Bool, false, ℤ, pos, List, [], ◌∷◌, length, map, Contains}
+use Rattle.std.specs.Prelude.{zip, Option, Some, None, Result, Ok, Err, ⊤, ◌⊎◌}
 use Rattle.col_model.specs.Whole.{WholeType}
 use Rattle.col_types.specs.declared.error.Error.{Error}
 use Rattle.col_types.specs.declared.error.Error.TheVariants.{InvalidArgumentError}

@@ -1,12 +1,14 @@
 //! Kernels that call a closure on the values of one array or of two.
-ghost use Rattle.std.specs.Prelude.{◌≡◌, ◌≢◌, ◌↔◌, IsOk, ◌⊎◌, IfErr, IfOk, Ok, Err, Some, option_map};
+ghost use Rattle.std.specs.Prelude.{◌≡◌, ◌≢◌, ◌↔◌, IsOk, ◌⊎◌, IfErr, IfOk, Ok, Err, Some};
+ghost use Rattle.std.specs.Prelude.{option_map};
 ghost use Rattle.col_types.specs.Answer.{ButForMemory, FailsByMemory, RefusedWhere, UnlessMemory};
 ghost use Rattle.col_types.specs.declared.error.Reason.TheVariants.{Lengths};
 ghost use Rattle.col_types.specs.Column.{row_count};
 ghost use Rattle.col_types.specs.DataKind.{kind_of};
 ghost use Rattle.col_types.specs.DataType.{IsMadeOf};
-ghost use Rattle.col_flat.specs.Parts.{column_of, pair_numbers, slots_of, zipped_slots};
-ghost use Rattle.col_arity.specs.Rows.{AnswersWith, IsCallableAtValid, IsFirstRefusal, IsLengths, IsMapped, IsMappedWithFlags};
+ghost use Rattle.col_flat.specs.Parts.{column_of, pair_numbers, slot_pairs, slots_of};
+ghost use Rattle.col_arity.specs.Rows.{AnswersWith, IsCallableAtValid, IsFirstRefusal, IsLengths};
+ghost use Rattle.col_arity.specs.Rows.{IsMapped, IsMappedWithFlags};
 
 mod checked;
 mod fallible;
@@ -15,7 +17,7 @@ mod mapped;
 
 use crate::masks::{beneath, mask_of_both, mask_of_one};
 use col_buf::Bitmap;
-use col_flat::PrimitiveArray;
+use col_flat::{PrimitiveArray, pairs};
 use col_types::{DataType, Error, NativeType, Reason};
 use std::alloc::Global;
 
@@ -35,7 +37,7 @@ pub fn unary<I: NativeType, O: NativeType, F: Fn(I) -> O>(
     ensures refused { FailsByMemory result }
 {
     let validity = mask_of_one(array)?;
-    let values = mapped::one(alloc, array, op)?;
+    let values = mapped::rows(alloc, array.len(), array.iter(), op)?;
     beneath(alloc, data_type, values, validity)
 }
 
@@ -54,8 +56,8 @@ pub fn unary_checked<I: NativeType, O: NativeType, F: Fn(I) -> Option<O>>(
         (slots_of array.now)) }
     ensures refused { FailsByMemory result }
 {
-    let slots = checked::one(alloc, array, op)?;
-    slots.finish(alloc, data_type)
+    let slots = checked::rows(alloc, array.len(), array.iter(), op)?;
+    slots.into_array(alloc, data_type)
 }
 
 /// An array of the type with the first part of the closure's answer for each value, and a bitmap
@@ -74,7 +76,7 @@ pub fn unary_with_bitmap<I: NativeType, O: NativeType, F: Fn(I) -> (O, bool)>(
     ensures refused { FailsByMemory result }
 {
     let validity = mask_of_one(array)?;
-    let made = flagged::one(alloc, array, op)?;
+    let made = flagged::rows(alloc, array.len(), array.iter(), op)?;
     let array = beneath(alloc, data_type, made.0, validity)?;
     let flags = Bitmap::from_bools(alloc, made.1.as_slice())?;
     Ok((array, flags))
@@ -99,7 +101,7 @@ pub fn try_unary<I: NativeType, O: NativeType, F: Fn(I) -> Result<O, Error>>(
         (λ x r. F.post op x r) (slots_of array.now) e)) }
 {
     let validity = mask_of_one(array)?;
-    let values = fallible::one(alloc, array, op)?;
+    let values = fallible::rows(alloc, array.len(), array.iter(), op)?;
     beneath(alloc, data_type, values, validity)
 }
 
@@ -116,18 +118,23 @@ pub fn binary<T: NativeType, D: NativeType, F: Fn(T, D) -> T>(
 ) -> Result<PrimitiveArray<T>, Error>
     requires made { IsMadeOf (kind_of data_type) T.PRIMITIVE }
     requires callable { IsCallableAtValid (pair_numbers T.numbers D.numbers) (λ p. F.pre op p.0 p.1)
-        (zipped_slots (slots_of lhs.now) (slots_of rhs.now)) }
+        (slot_pairs lhs.now rhs.now) }
     ensures answer { IfOk result (IsMapped (kind_of data_type)
         (AnswersWith (pair_numbers T.numbers D.numbers) (λ p r. F.post op p.0 p.1 r)
         (λ r. Some (T.numbers r)))
-        (zipped_slots (slots_of lhs.now) (slots_of rhs.now))) }
+        (slot_pairs lhs.now rhs.now)) }
     ensures lengths { RefusedWhere result (Error.InvalidArgumentError Lengths)
         (row_count (column_of lhs.now) ≢ row_count (column_of rhs.now)) }
     ensures refused { IfErr result (λ e. UnlessMemory e (e ≡ Error.InvalidArgumentError Lengths)) }
 {
     check_lengths(lhs, rhs)?;
     let validity = mask_of_both(alloc, lhs, rhs)?;
-    let values = mapped::two(alloc, lhs, rhs, validity.as_ref(), op)?;
+    let rows = pairs(lhs, rhs, validity.as_ref());
+    let each = |pair: (T, D)| -> T
+        requires { F.pre op pair.0 pair.1 }
+        ensures { F.post op pair.0 pair.1 result }
+    { op(pair.0, pair.1) };
+    let values = mapped::rows(alloc, lhs.len(), rows, each)?;
     beneath(alloc, data_type, values, validity)
 }
 
@@ -145,19 +152,24 @@ pub fn binary_checked<T: NativeType, D: NativeType, F: Fn(T, D) -> Option<T>>(
 ) -> Result<PrimitiveArray<T>, Error>
     requires made { IsMadeOf (kind_of data_type) T.PRIMITIVE }
     requires callable { IsCallableAtValid (pair_numbers T.numbers D.numbers) (λ p. F.pre op p.0 p.1)
-        (zipped_slots (slots_of lhs.now) (slots_of rhs.now)) }
+        (slot_pairs lhs.now rhs.now) }
     ensures answer { IfOk result (IsMapped (kind_of data_type)
         (AnswersWith (pair_numbers T.numbers D.numbers) (λ p r. F.post op p.0 p.1 r)
         (λ r. option_map T.numbers r))
-        (zipped_slots (slots_of lhs.now) (slots_of rhs.now))) }
+        (slot_pairs lhs.now rhs.now)) }
     ensures lengths { RefusedWhere result (Error.InvalidArgumentError Lengths)
         (row_count (column_of lhs.now) ≢ row_count (column_of rhs.now)) }
     ensures refused { IfErr result (λ e. UnlessMemory e (e ≡ Error.InvalidArgumentError Lengths)) }
 {
     check_lengths(lhs, rhs)?;
     let validity = mask_of_both(alloc, lhs, rhs)?;
-    let slots = checked::two(alloc, lhs, rhs, validity.as_ref(), op)?;
-    slots.finish(alloc, data_type)
+    let rows = pairs(lhs, rhs, validity.as_ref());
+    let each = |pair: (T, D)| -> Option<T>
+        requires { F.pre op pair.0 pair.1 }
+        ensures { F.post op pair.0 pair.1 result }
+    { op(pair.0, pair.1) };
+    let slots = checked::rows(alloc, lhs.len(), rows, each)?;
+    slots.into_array(alloc, data_type)
 }
 
 /// An array of the type with the first part of the closure's answer for each pair of values, and a
@@ -174,18 +186,23 @@ pub fn binary_with_bitmap<T: NativeType, D: NativeType, F: Fn(T, D) -> (T, bool)
 ) -> Result<(PrimitiveArray<T>, Bitmap), Error>
     requires made { IsMadeOf (kind_of data_type) T.PRIMITIVE }
     requires callable { IsCallableAtValid (pair_numbers T.numbers D.numbers) (λ p. F.pre op p.0 p.1)
-        (zipped_slots (slots_of lhs.now) (slots_of rhs.now)) }
+        (slot_pairs lhs.now rhs.now) }
     ensures answer { IfOk result (λ made. IsMappedWithFlags (kind_of data_type)
         (AnswersWith (pair_numbers T.numbers D.numbers) (λ p r. F.post op p.0 p.1 r)
         (λ r. (Some (T.numbers r.0), r.1)))
-        (zipped_slots (slots_of lhs.now) (slots_of rhs.now)) made.0 made.1) }
+        (slot_pairs lhs.now rhs.now) made.0 made.1) }
     ensures lengths { RefusedWhere result (Error.InvalidArgumentError Lengths)
         (row_count (column_of lhs.now) ≢ row_count (column_of rhs.now)) }
     ensures refused { IfErr result (λ e. UnlessMemory e (e ≡ Error.InvalidArgumentError Lengths)) }
 {
     check_lengths(lhs, rhs)?;
     let validity = mask_of_both(alloc, lhs, rhs)?;
-    let made = flagged::two(alloc, lhs, rhs, validity.as_ref(), op)?;
+    let rows = pairs(lhs, rhs, validity.as_ref());
+    let each = |pair: (T, D)| -> (T, bool)
+        requires { F.pre op pair.0 pair.1 }
+        ensures { F.post op pair.0 pair.1 result }
+    { op(pair.0, pair.1) };
+    let made = flagged::rows(alloc, lhs.len(), rows, each)?;
     let array = beneath(alloc, data_type, made.0, validity)?;
     let flags = Bitmap::from_bools(alloc, made.1.as_slice())?;
     Ok((array, flags))
@@ -206,20 +223,25 @@ pub fn try_binary<T: NativeType, D: NativeType, F: Fn(T, D) -> Result<T, Error>>
 ) -> Result<PrimitiveArray<T>, Error>
     requires made { IsMadeOf (kind_of data_type) T.PRIMITIVE }
     requires callable { IsCallableAtValid (pair_numbers T.numbers D.numbers) (λ p. F.pre op p.0 p.1)
-        (zipped_slots (slots_of lhs.now) (slots_of rhs.now)) }
+        (slot_pairs lhs.now rhs.now) }
     ensures answer { IfOk result (IsMapped (kind_of data_type)
         (AnswersWith (pair_numbers T.numbers D.numbers) (λ p r. F.post op p.0 p.1 (Ok r))
         (λ r. Some (T.numbers r)))
-        (zipped_slots (slots_of lhs.now) (slots_of rhs.now))) }
+        (slot_pairs lhs.now rhs.now)) }
     ensures lengths { row_count (column_of lhs.now) ≢ row_count (column_of rhs.now)
         → ButForMemory result (result ≡ Err (Error.InvalidArgumentError Lengths)) }
     ensures refused { IfErr result (λ e. UnlessMemory e (IsLengths lhs.now rhs.now e
         ⊎ IsFirstRefusal (pair_numbers T.numbers D.numbers)
-        (λ p r. F.post op p.0 p.1 r) (zipped_slots (slots_of lhs.now) (slots_of rhs.now)) e)) }
+        (λ p r. F.post op p.0 p.1 r) (slot_pairs lhs.now rhs.now) e)) }
 {
     check_lengths(lhs, rhs)?;
     let validity = mask_of_both(alloc, lhs, rhs)?;
-    let values = fallible::two(alloc, lhs, rhs, validity.as_ref(), op)?;
+    let rows = pairs(lhs, rhs, validity.as_ref());
+    let each = |pair: (T, D)| -> Result<T, Error>
+        requires { F.pre op pair.0 pair.1 }
+        ensures { F.post op pair.0 pair.1 result }
+    { op(pair.0, pair.1) };
+    let values = fallible::rows(alloc, lhs.len(), rows, each)?;
     beneath(alloc, data_type, values, validity)
 }
 

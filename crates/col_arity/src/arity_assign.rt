@@ -3,7 +3,7 @@ ghost use Rattle.std.specs.Prelude.{◌≡◌, ◌≢◌, IfErr, IfOk, OnErr, So
 ghost use Rattle.col_types.specs.Answer.{ButForMemory, FailsByMemory, RefusedWhere, UnlessMemory};
 ghost use Rattle.col_types.specs.declared.error.Reason.TheVariants.{Lengths};
 ghost use Rattle.col_types.specs.Column.{row_count};
-ghost use Rattle.col_flat.specs.Parts.{column_of, pair_numbers, slots_of, zipped_slots};
+ghost use Rattle.col_flat.specs.Parts.{column_of, pair_numbers, slot_pairs, slots_of};
 ghost use Rattle.col_arity.specs.Rows.{AnswersWith, IsCallableAtStored, IsMapped};
 
 use crate::arity;
@@ -48,7 +48,7 @@ pub fn binary<T: NativeType, D: NativeType, F: Fn(T, D) -> T>(
     ensures answer { IfOk result (λ _. IsMapped lhs.old.data_type
         (AnswersWith (pair_numbers T.numbers D.numbers) (λ p r. F.post op p.0 p.1 r)
         (λ r. Some (T.numbers r)))
-        (zipped_slots (slots_of lhs.old) (slots_of rhs.now)) lhs.new) }
+        (slot_pairs lhs.old rhs.now) lhs.new) }
     ensures lengths { RefusedWhere result (Error.InvalidArgumentError Lengths)
         (row_count (column_of lhs.old) ≢ row_count (column_of rhs.now)) }
     ensures refused { IfErr result (λ e. UnlessMemory e (e ≡ Error.InvalidArgumentError Lengths)) }

@@ -3,8 +3,8 @@
 
 mod arity;
 pub mod arity_assign;
-mod growing;
 mod masks;
+mod rows;
 
 pub use arity::{
     binary, binary_checked, binary_with_bitmap, try_binary, try_unary, unary, unary_checked,

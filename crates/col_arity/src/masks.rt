@@ -1,11 +1,11 @@
-//! The masks that rows are read beneath, and that answers have whose nulls are those of their operands.
+//! The masks that rows are read beneath, and that answers with their operands' nulls have.
 ghost use Rattle.std.specs.Prelude.{◌≡◌, IfOk, is_some, length, map};
 ghost use Rattle.std.specs.Option.{option_copied};
 ghost use Rattle.col_types.specs.Answer.{FailsByMemory};
 ghost use Rattle.col_types.specs.Column.{row_count};
 ghost use Rattle.col_types.specs.DataKind.{kind_of};
 ghost use Rattle.col_types.specs.DataType.{IsMadeOf};
-ghost use Rattle.col_flat.specs.Parts.{HasFlags, IsMaskOf, column_of, slots_of, zipped_slots};
+ghost use Rattle.col_flat.specs.Parts.{HasFlags, IsMaskOf, column_of, slot_pairs, slots_of};
 
 use col_buf::{Bitmap, Buffer};
 use col_flat::{PrimitiveArray, combine_validities};
@@ -43,7 +43,7 @@ pub(crate) fn mask_of_both<T: NativeType, D: NativeType>(
 ) -> Result<Option<Bitmap>, Error>
     requires { row_count (column_of lhs.now) ≡ row_count (column_of rhs.now) }
     ensures value { IfOk result (λ mask. HasFlags mask
-        (map is_some (zipped_slots (slots_of lhs.now) (slots_of rhs.now)))) }
+        (map is_some (slot_pairs lhs.now rhs.now))) }
     ensures refused { FailsByMemory result }
 {
     combine_validities(alloc, needed_mask(lhs), needed_mask(rhs))

@@ -4,4 +4,5 @@ use Rattle.col_arity.proofs.arity_assign.unary.Goals as goal
 
 pub unary-requires-clause-callable : goal.unary-requires-clause-callable
 unary-requires-clause-callable g c =
-    callable_stored g.I.NativeType.numbers _ c.args.array.now.values (unwrap_or c.args.array.now.validity []) c.requires
+    callable_stored g.I.NativeType.numbers _ c.args.array.now.values
+    (unwrap_or c.args.array.now.validity []) c.requires
