@@ -1,4 +1,4 @@
-//! Checks of the types of columns and of the native types: that calls succeed, and what they answer.
+//! Checks of types and of native types: that calls succeed, and what they answer.
 #![tactic(auto)]
 
 #[cfg(test)]

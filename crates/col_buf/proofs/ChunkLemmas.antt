@@ -1,6 +1,9 @@
 -- Lemmas on 64 truth values at once.
-use Rattle.std.proofs.Common.{◌≡◌, ℕ, ◌+◌, ◌-◌, ◌*◌, ◌/◌, ◌%◌, ◌^◌, ◌<◌, ◌≤◌, min, Bool, true, false, cond, not, List, [], ◌∷◌, length, get_or, take, drop, refl, sym, ap, ap₂, ◌∙◌, arith, ⊎_elim, bit_and}
-use Rattle.std.proofs.lemmas.List.{length-take, length-drop, get_or-take, get_or-drop, take_min, take_all}
+use Rattle.std.proofs.Common.{◌≡◌, ℕ, ◌+◌, ◌-◌, ◌*◌, ◌/◌, ◌%◌, ◌^◌, ◌<◌, ◌≤◌, min, Bool, true}
+use Rattle.std.proofs.Common.{false, cond, not, List, [], ◌∷◌, length, get_or, take, drop, refl}
+use Rattle.std.proofs.Common.{sym, ap, ap₂, ◌∙◌, arith, ⊎_elim, bit_and}
+use Rattle.std.proofs.lemmas.List.{length-take, length-drop, get_or-take, get_or-drop, take_min}
+use Rattle.std.proofs.lemmas.List.{take_all}
 use Rattle.std.proofs.lemmas.List.Sums.{sum_by-append, sum_by-cons}
 use Rattle.std.proofs.lemmas.Bool.{cases_lt}
 use Rattle.std.proofs.lemmas.Nat.{pow_pos, and_mask, mod_below}
@@ -11,8 +14,10 @@ use Rattle.std.specs.Int.Count.{ones, ones_step}
 use Rattle.std.specs.List.{count_by}
 use Rattle.col_buf.specs.Cut.{cut}
 use Rattle.col_buf.specs.Bitmap.{bit_at, bits_from, number_of, chunk_at}
-use Rattle.col_buf.proofs.BitLemmas.{length-bits_from, get_or-bits_from, cut-bits_from, digit_of_bit_at}
-use Rattle.col_buf.proofs.NumberLemmas.{bit_of-number_of, bit_of-mod, bit_of-shr, number_from_bits, number_of-below, halved, lowest}
+use Rattle.col_buf.proofs.BitLemmas.{length-bits_from, get_or-bits_from, cut-bits_from}
+use Rattle.col_buf.proofs.BitLemmas.{digit_of_bit_at}
+use Rattle.col_buf.proofs.NumberLemmas.{bit_of-number_of, bit_of-mod, bit_of-shr, number_from_bits}
+use Rattle.col_buf.proofs.NumberLemmas.{number_of-below, halved, lowest}
 
 -- nine bytes as one number: each bit is that of the bytes
 nine_bytes : (bytes : List ℕ) (at m : ℕ) → m < 72 →

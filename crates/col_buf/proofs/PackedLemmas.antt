@@ -1,6 +1,10 @@
 -- Lemmas on bytes that are made of truth values.
-use Rattle.std.proofs.Common.{◌≡◌, ℕ, zero, suc, ◌+◌, ◌-◌, ◌*◌, ◌/◌, ◌%◌, ◌^◌, ◌<◌, ◌≤◌, min, Bool, true, false, cond, eqb, ◌&&◌, List, [], ◌∷◌, ◌++◌, length, get_or, take, drop, refl, sym, ap, ap₂, ◌∙◌, arith, ⊎_elim, bit_and, bit_or, pow-suc, w64, add-zero, add_comm}
-use Rattle.std.proofs.lemmas.List.{length-take, get_or-take, get_or-drop, get_or_append_left, get_or-append_right, take_more}
+use Rattle.std.proofs.Common.{◌≡◌, ℕ, zero, suc, ◌+◌, ◌-◌, ◌*◌, ◌/◌, ◌%◌, ◌^◌, ◌<◌, ◌≤◌, min, Bool}
+use Rattle.std.proofs.Common.{true, false, cond, eqb, ◌&&◌, List, [], ◌∷◌, ◌++◌, length, get_or}
+use Rattle.std.proofs.Common.{take, drop, refl, sym, ap, ap₂, ◌∙◌, arith, ⊎_elim, bit_and, bit_or}
+use Rattle.std.proofs.Common.{pow-suc, w64, add-zero, add_comm}
+use Rattle.std.proofs.lemmas.List.{length-take, get_or-take, get_or-drop, get_or_append_left}
+use Rattle.std.proofs.lemmas.List.{get_or-append_right, take_more}
 use Rattle.std.proofs.lemmas.Bool.{cases_lt}
 use Rattle.std.proofs.lemmas.Nat.{pow_below, or_comm, or_shifted}
 use Rattle.std.proofs.lemmas.Nat.Bits.{bit_at_and}

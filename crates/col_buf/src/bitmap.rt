@@ -1,5 +1,7 @@
 //! Truth values packed into bytes.
-ghost use Rattle.std.specs.Prelude.{◌≡◌, ◌+◌, ◌-◌, ◌*◌, ◌/◌, ◌%◌, ◌^◌, ◌<◌, ◌≤◌, ◌↔◌, min, not, take, length, slice_index, slice_index_or, count_by, IfOk, IfErr, IsOk, false};
+ghost use Rattle.std.specs.Prelude.{◌≡◌, ◌+◌, ◌-◌, ◌*◌, ◌/◌, ◌%◌, ◌^◌, ◌<◌, ◌≤◌, ◌↔◌, min, not};
+ghost use Rattle.std.specs.Prelude.{take, length, slice_index, slice_index_or, count_by, IfOk};
+ghost use Rattle.std.specs.Prelude.{IfErr, IsOk, false};
 ghost use Rattle.col_types.specs.Answer.{FailsByMemory};
 ghost use Rattle.col_buf.specs.Bitmap.{bits_from, HasBits, IsPacked, number_of, chunk_at, both};
 ghost use Rattle.col_buf.specs.Cut.{IsWithin, cut};
@@ -32,8 +34,8 @@ impl Model for Bitmap {
 }
 
 impl Bitmap {
-    /// The `length` bits of the bytes from bit `offset` on, the least bit of a byte first. The bytes
-    /// stay in their buffer.
+    /// The `length` bits of the bytes from bit `offset` on, the least bit of a byte first. They stay
+    /// in their buffer.
     ///
     /// Refused: `OutOfSpec` where the bytes have fewer bits.
     pub fn try_new(bytes: Buffer<u8>, offset: usize, length: usize) -> Result<Bitmap, Error>

@@ -18,8 +18,8 @@ abbrev pub IsUnread : {Y : Type 0} → ReadError → Option Y → Type 0
 IsUnread Memory wanted = ⊤
 IsUnread Malformed wanted = wanted ≡ None
 
--- the answer is what is read, seen by a view; it is malformed exactly where nothing is, but for want
--- of memory
+-- the answer is what is read, seen by a view; it is malformed exactly where nothing is, but for
+-- want of memory
 abbrev pub Reads : {X Y : Type 0} → (X → Y) → Result X ReadError → Option Y → Type 0
 Reads view (Ok x) wanted = wanted ≡ Some (view x)
 Reads view (Err e) wanted = IsUnread e wanted

@@ -120,7 +120,8 @@ entry_of-left op _ _ h = absurd cc
 
 -- a step with a type has an entry for the types of its operands
 pub entry_of-operands : (op : Op) (left right : Tree) (t : DataKind) (table : List Column)
-    (l : Column) → IsOk (type_of (step op left right) (types_of table)) → operand_outcome left table ≡ Ok l
+    (l : Column) → IsOk (type_of (step op left right) (types_of table))
+    → operand_outcome left table ≡ Ok l
     → right_type right (type_of right (types_of table)) ≡ Ok t
     → IsOk (entry_of op l.data_type t)
 entry_of-operands op left right t table l typed h right_typed =

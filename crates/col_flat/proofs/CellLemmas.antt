@@ -68,6 +68,7 @@ pub array-holds_its_cells : {T : Type 0} (numbers : T → List ℤ) (n : Primiti
     → record { data_type = t; values = map numbers values; validity = validity } ≡ a
     → HoldsItsCells (column_of a)
 array-holds_its_cells {T} numbers n fields is fits t values validity made a seen =
-    let each : (x : T) → IsCellOf t (value_cell (numbers x)) = λ x. fitting-cell t fields (numbers x)
+    let each : (x : T) → IsCellOf t (value_cell (numbers x)) =
+    λ x. fitting-cell t fields (numbers x)
     (stored-fields t n made.stored ∙ sym is) (λ e. fields_of-some n (sym is ∙ e)) (fits x) in
     rw (← seen) (masked-cells numbers t each values (unwrap_or validity []))

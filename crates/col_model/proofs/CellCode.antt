@@ -1,8 +1,10 @@
 -- How the prover stores a cell, so that cells may stand in the value of a model: its tokens.
-use Rattle.std.specs.Prelude.{◌≡◌, ℕ, zero, suc, ◌==◌, ℤ, pos, Bool, true, false, cond, List, [], ◌∷◌, refl}
+use Rattle.std.specs.Prelude.{◌≡◌, ℕ, zero, suc, ◌==◌, ℤ, pos, Bool, true, false, cond, List, []}
+use Rattle.std.specs.Prelude.{◌∷◌, refl}
 use Rattle.std.specs.Coded.{Coded, code_by, coded×, coded_list, coded_ℕ, coded_ℤ}
 use Rattle.std.proofs.Common.{ap, ◌∙◌}
-use Rattle.col_model.specs.Cell.{Cell, Elements, null, whole, truth, parts, octets, list, no_elements, element}
+use Rattle.col_model.specs.Cell.{Cell, Elements, null, whole, truth, parts, octets, list}
+use Rattle.col_model.specs.Cell.{no_elements, element}
 
 -- a token: the number of a cell's variant, a count, a number, numbers, and bytes
 abbrev pub Token : Type 0

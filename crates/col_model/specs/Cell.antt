@@ -1,8 +1,8 @@
 -- What a column holds at one row, and why a row is refused.
 use Rattle.std.specs.Prelude.{ℕ, ℤ, Bool, List}
 
--- a null, a whole number, a truth value, the numbers of an interval's parts, the bytes of a text or of
--- a binary value, or the cells of a list's elements: a null has no value
+-- a null, a whole number, a truth value, the numbers of an interval's parts, the bytes of a text or
+-- of a binary value, or the cells of a list's elements: a null has no value
 mutual
   pub data Cell : Type 0 where
     null : Cell

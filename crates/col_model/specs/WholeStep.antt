@@ -1,5 +1,6 @@
 -- One step on two cells of whole numbers, by operation, form and type.
-use Rattle.std.specs.Prelude.{ℤ, pos, ◌+ℤ◌, ◌-ℤ◌, ◌*ℤ◌, int_div, int_rem, Bool, false, not, ◌&&◌, if◌then◌else◌, List, [], ◌∷◌, Option, Some, None, Result, Ok, Err}
+use Rattle.std.specs.Prelude.{ℤ, pos, ◌+ℤ◌, ◌-ℤ◌, ◌*ℤ◌, int_div, int_rem, Bool, false, not, ◌&&◌}
+use Rattle.std.specs.Prelude.{if◌then◌else◌, List, [], ◌∷◌, Option, Some, None, Result, Ok, Err}
 use Rattle.std.specs.Ordering.{int_eq}
 use Rattle.col_model.specs.Cell.{Cell, null, whole, Cause, overflow, divide_by_zero}
 use Rattle.col_model.specs.Whole.{WholeType, is_fitting, wrapped_number, nearest_number}
@@ -60,8 +61,8 @@ checked_result operation t a b =
     if is_by_zero operation b then None
     else (if is_fitting_result operation t a b then Some (exact_result operation a b) else None)
 
--- what a form gives for a divisor of 0: no call divides in the forms that wrap and saturate, and the
--- step refuses there
+-- what a form gives for a divisor of 0: no call divides in the forms that wrap and saturate, and
+-- the step refuses there
 abbrev pub by_zero_answer : Form → Result Cell Cause
 by_zero_answer plain = Err divide_by_zero
 by_zero_answer checked = Ok null
@@ -93,9 +94,10 @@ before (Err cause) rest = Err cause
 before (Ok cell) (Err cause) = Err cause
 before (Ok cell) (Ok cells) = Ok (cell ∷ cells)
 
--- a step at each row of two lists of one length: all its cells, or the cause at the least row that it
--- refuses
-abbrev pub each_row : (Cell → Cell → Result Cell Cause) → List Cell → List Cell → Result (List Cell) Cause
+-- a step at each row of two lists of one length: all its cells, or the cause at the least row that
+-- it refuses
+abbrev pub each_row : (Cell → Cell → Result Cell Cause) → List Cell → List Cell
+    → Result (List Cell) Cause
 each_row step [] right = Ok []
 each_row step (a ∷ left) [] = Ok []
 each_row step (a ∷ left) (b ∷ right) = before (step a b) (each_row step left right)

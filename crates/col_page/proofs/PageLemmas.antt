@@ -1,5 +1,6 @@
 -- Texts of cells and lines, one after another.
-use Rattle.std.proofs.Common.{◌≡◌, ℕ, ◌+◌, suc, zero, Bool, true, false, ◌||◌, List, [], ◌∷◌, ◌++◌, map, take}
+use Rattle.std.proofs.Common.{◌≡◌, ℕ, ◌+◌, suc, zero, Bool, true, false, ◌||◌, List, [], ◌∷◌, ◌++◌}
+use Rattle.std.proofs.Common.{map, take}
 use Rattle.std.proofs.Common.{slice_get, Some, refl, ap, sym, ◌∙◌, add-one, append_assoc}
 use Rattle.std.specs.List.{join_with_byte, flat_map, list_any}
 use Rattle.std.proofs.lemmas.List.{append-nil, map-append}
@@ -33,7 +34,8 @@ rest-first [] = refl
 rest-first (c ∷ cells) = sym (join-rest c cells)
 
 -- one more cell behind a text: what is left behind both is what was left
-pub rest-next : (start text after : List ℕ) (is_first : Bool) (c : Cell) (all before rest : List Cell)
+pub rest-next : (start text after : List ℕ) (is_first : Bool) (c : Cell)
+    (all before rest : List Cell)
     → before ≡ c ∷ rest → text ++ rest_text is_first before ≡ start ++ rest_text true all
     → after ≡ text ++ (comma_unless is_first ++ cell_text c)
     → after ++ rest_text false rest ≡ start ++ rest_text true all

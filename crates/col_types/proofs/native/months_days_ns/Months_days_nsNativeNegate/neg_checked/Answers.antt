@@ -7,10 +7,13 @@ use Rattle.col_types.proofs.native.months_days_ns.Months_days_nsNativeNegate.neg
 
 pub returns : goal.returns
 returns c =
-    let months : checked_number (signed w32) (neg_ℤ (nearest_number (signed w32) c.args.self.months))
+    let months : checked_number (signed w32)
+    (neg_ℤ (nearest_number (signed w32) c.args.self.months))
     ≡ Some (nearest_number (signed w32) c.new.result.months) = grind (arith, common_steps) in
-    let days : checked_number (signed w32) (neg_ℤ (nearest_number (signed w32) c.args.self.days))
+    let days : checked_number (signed w32)
+    (neg_ℤ (nearest_number (signed w32) c.args.self.days))
     ≡ Some (nearest_number (signed w32) c.new.result.days) = grind (arith, common_steps) in
-    let ns : checked_number (signed w64) (neg_ℤ (nearest_number (signed w64) c.args.self.ns))
+    let ns : checked_number (signed w64)
+    (neg_ℤ (nearest_number (signed w64) c.args.self.ns))
     ≡ Some (nearest_number (signed w64) c.new.result.ns) = grind (arith, common_steps) in
     rw (months, days, ns) (grind (arith))
