@@ -1,2 +1,2 @@
-//! The definitions that several crates cite, and that name no type of the code.
+//! What contracts of several crates speak of: definitions alone, in terms of no code.
 #![tactic(auto)]

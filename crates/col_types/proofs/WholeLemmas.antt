@@ -5,12 +5,11 @@ use Rattle.std.specs.Prelude.{bit_or, bit_xor}
 use Rattle.std.specs.Int.{Width, w8, w16, w32, w64, w128, int_wrap, int_wrapping_mul}
 use Rattle.std.specs.Int.{int_wrapping_neg}
 use Rattle.std.proofs.lemmas.Bool.Decides.{nat_tests}
-use Rattle.std.proofs.lemmas.Int.{ints, SFits-int_wrap, wrapping_mul_is, wrapping_neg_is}
+use Rattle.std.proofs.lemmas.Int.{ints, wrapping_mul_is, wrapping_neg_is}
 use Rattle.std.proofs.lemmas.Nat.{or_lt, xor_lt, pow_pos}
 use Rattle.std.proofs.Math.Nat.{mod-eq_of_lt}
 use Rattle.col_model.specs.Bitwise.{bits_of, bitwise_or, bitwise_xor, number_of_bits}
 use Rattle.col_model.specs.Whole.{WholeType, signed, unsigned, bit_count, lowered_into}
-use Rattle.col_model.specs.Whole.{nearest_number}
 use Rattle.col_model.specs.Whole.{wrapped_number}
 use mir.Val.{bits}
 
@@ -139,44 +138,7 @@ pub xor_64 : (a b : ℕ) → a < 2 ^ 64 → b < 2 ^ 64
     → pos (bit_xor a b) ≡ bitwise_xor (unsigned w64) (pos a) (pos b)
 xor_64 = unsigned_xor w64
 
--- a number of a type with a sign is the nearest to itself
-pub nearest-signed : (w : Width) (a : ℤ) → FitsSigned w a → nearest_number (signed w) a ≡ a
-nearest-signed w8 a f = let s = f.sfits in grind (arith, ints)
-nearest-signed w16 a f = let s = f.sfits in grind (arith, ints)
-nearest-signed w32 a f = let s = f.sfits in grind (arith, ints)
-nearest-signed w64 a f = let s = f.sfits in grind (arith, ints)
-nearest-signed w128 a f = let s = f.sfits in grind (arith, ints)
-
--- a number of 64 bits without a sign is the nearest to itself
-nearest-64 : (m : ℕ) → m < 2 ^ 64 → nearest_number (unsigned w64) (pos m) ≡ pos m
-nearest-64 m h = grind (arith, ints, nat_tests)
-
--- `signed_product` of what the factors stand for
-pub seen_product : (w : Width) (a b : ℤ) → FitsSigned w a → FitsSigned w b
-    → nearest_number (signed w) (int_wrapping_mul w a b)
-    ≡ wrapped_number (signed w) (nearest_number (signed w) a *ℤ nearest_number (signed w) b)
-seen_product w a b f g =
-    let fits : FitsSigned w (int_wrapping_mul w a b) =
-    rw (wrapping_mul_is w a b f g) (SFits-int_wrap w (a *ℤ b)) in
-    rw (nearest-signed w a f, nearest-signed w b g, nearest-signed w _ fits)
-    (signed_product w a b f g)
-
--- `unsigned_or` at 64 bits of what the numbers stand for
-pub seen_or_64 : (a b : ℕ) → a < 2 ^ 64 → b < 2 ^ 64
-    → nearest_number (unsigned w64) (pos (bit_or a b)) ≡ bitwise_or (unsigned w64)
-    (nearest_number (unsigned w64) (pos a)) (nearest_number (unsigned w64) (pos b))
-seen_or_64 a b f g =
-    rw (nearest-64 a f, nearest-64 b g, nearest-64 _ (or_lt 64 a b f g)) (or_64 a b f g)
-
--- `unsigned_xor` at 64 bits of what the numbers stand for
-pub seen_xor_64 : (a b : ℕ) → a < 2 ^ 64 → b < 2 ^ 64
-    → nearest_number (unsigned w64) (pos (bit_xor a b)) ≡ bitwise_xor (unsigned w64)
-    (nearest_number (unsigned w64) (pos a)) (nearest_number (unsigned w64) (pos b))
-seen_xor_64 a b f g =
-    rw (nearest-64 a f, nearest-64 b g, nearest-64 _ (xor_lt 64 a b f g)) (xor_64 a b f g)
-
 -- for the members of the types with a sign, and of those without one
-pub ruleset signed_answers = (signed_product, signed_negative, signed_or, signed_xor, seen_product)
+pub ruleset signed_answers = (signed_product, signed_negative, signed_or, signed_xor)
 
-pub ruleset unsigned_answers =
-    (or_8, xor_8, or_16, xor_16, or_32, xor_32, or_64, xor_64, seen_or_64, seen_xor_64)
+pub ruleset unsigned_answers = (or_8, xor_8, or_16, xor_16, or_32, xor_32, or_64, xor_64)

@@ -15,6 +15,7 @@ pub record Column : Type 0 where
   pub data_type : DataKind
   pub cells : List Cell
 
+-- how many rows a column has
 abbrev pub row_count : Column → ℕ
 row_count c = length c.cells
 

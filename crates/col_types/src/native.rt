@@ -10,7 +10,6 @@ ghost use Rattle.col_model.specs.WholeStep.{checked_result, addition, subtractio
 ghost use Rattle.col_model.specs.WholeStep.{division, remainder};
 ghost use Rattle.col_types.specs.declared.datatypes.IntegerType.{IntegerType};
 ghost use Rattle.col_types.specs.declared.datatypes.physical_type.PrimitiveType.{PrimitiveType};
-ghost use Rattle.col_types.specs.CellOf.{are_fitting};
 ghost use Rattle.col_types.specs.DataKind.{kind_of};
 ghost use Rattle.col_types.specs.DataType.{IsStoredAs};
 ghost use Rattle.col_types.specs.NativeFields.{fields_of, whole_type_of_key};
@@ -54,18 +53,14 @@ pub trait NativeType: Copy + Eq + Hash {
         t.to_physical_type() == PhysicalType::Primitive(Self::PRIMITIVE)
     }
 
-    /// Whether two values stand for the same numbers.
-    fn is_same(self, rhs: Self) -> bool
-        ensures { IsTrue result ↔ (numbers self ≡ numbers rhs) };
-
     // The name tells the fields.
     ghost fields_law: { field_types ≡ fields_of PRIMITIVE };
 
     // A value has a number for each field.
     ghost numbers_law: { (x : Self) → length (numbers x) ≡ length field_types };
 
-    // Each number fits its field.
-    ghost fits_law: { (x : Self) → IsTrue (are_fitting field_types (numbers x)) };
+    // Values with the same numbers are the same value.
+    ghost one_value_law: { (x y : Self) → numbers x ≡ numbers y → x ≡ y };
 
     // `==` tells whether two values are the same.
     ghost same_law: { (x y : Self) → IsTrue (Self.eq x y) ↔ (x ≡ y) };

@@ -2,7 +2,7 @@
 ghost use Rattle.std.specs.Prelude.{[], ◌∷◌, refl};
 ghost use Rattle.std.specs.Int.{w32};
 ghost use Rattle.std.proofs.Common.{rules};
-ghost use Rattle.col_model.specs.Whole.{nearest_number, signed};
+ghost use Rattle.col_model.specs.Whole.{signed};
 ghost use Rattle.col_types.specs.declared.datatypes.physical_type.PrimitiveType.TheVariants as name;
 
 use crate::datatypes::PrimitiveType;
@@ -10,8 +10,7 @@ use crate::native::{NativeNegate, NativeType};
 use crate::types::days_ms;
 
 impl NativeType for days_ms {
-    ghost numbers = { λ x. nearest_number (signed w32) x.days
-        ∷ nearest_number (signed w32) x.milliseconds ∷ [] };
+    ghost numbers = { λ x. x.days ∷ x.milliseconds ∷ [] };
 
     ghost field_types = { signed w32 ∷ signed w32 ∷ [] };
 
@@ -23,15 +22,11 @@ impl NativeType for days_ms {
         days_ms::new(0, 0)
     }
 
-    fn is_same(self, rhs: days_ms) -> bool {
-        self == rhs
-    }
-
     ghost fields_law = { refl };
 
     ghost numbers_law = { λ x. refl };
 
-    ghost fits_law = { Prim.search rules };
+    ghost one_value_law = { Prim.search rules };
 
     ghost same_law = { Prim.search rules };
 }

@@ -2,14 +2,14 @@
 ghost use Rattle.std.specs.Prelude.{[], ◌∷◌, refl};
 ghost use Rattle.std.specs.Int.{w128};
 ghost use Rattle.std.proofs.Common.{rules};
-ghost use Rattle.col_model.specs.Whole.{nearest_number, signed};
+ghost use Rattle.col_model.specs.Whole.{signed};
 ghost use Rattle.col_types.specs.declared.datatypes.physical_type.PrimitiveType.TheVariants as name;
 
 use crate::datatypes::PrimitiveType;
 use crate::native::{NativeNegate, NativeType, NativeWhole};
 
 impl NativeType for i128 {
-    ghost numbers = { λ n. nearest_number (signed w128) n ∷ [] };
+    ghost numbers = { λ n. n ∷ [] };
 
     ghost field_types = { signed w128 ∷ [] };
 
@@ -21,22 +21,18 @@ impl NativeType for i128 {
         0
     }
 
-    fn is_same(self, rhs: i128) -> bool {
-        self == rhs
-    }
-
     ghost fields_law = { refl };
 
     ghost numbers_law = { λ x. refl };
 
-    ghost fits_law = { Prim.search rules };
+    ghost one_value_law = { Prim.search rules };
 
     ghost same_law = { Prim.search rules };
 }
 
 #[tactic(auto, using(crate::proofs::WholeLemmas::signed_answers))]
 impl NativeWhole for i128 {
-    ghost value = { λ n. nearest_number (signed w128) n };
+    ghost value = { λ n. n };
 
     ghost whole_type = { signed w128 };
 

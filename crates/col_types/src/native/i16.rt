@@ -2,7 +2,7 @@
 ghost use Rattle.std.specs.Prelude.{◌-◌, ◌^◌, [], ◌∷◌, pos, negsuc, refl};
 ghost use Rattle.std.specs.Int.{w16};
 ghost use Rattle.std.proofs.Common.{rules};
-ghost use Rattle.col_model.specs.Whole.{nearest_number, signed};
+ghost use Rattle.col_model.specs.Whole.{signed};
 ghost use Rattle.col_types.specs.declared.datatypes.IntegerType.TheVariants as key;
 ghost use Rattle.col_types.specs.declared.datatypes.physical_type.PrimitiveType.TheVariants as name;
 
@@ -10,7 +10,7 @@ use crate::datatypes::{IntegerType, PrimitiveType};
 use crate::native::{DictionaryKey, NativeArithmetics, NativeNegate, NativeType, NativeWhole};
 
 impl NativeType for i16 {
-    ghost numbers = { λ n. nearest_number (signed w16) n ∷ [] };
+    ghost numbers = { λ n. n ∷ [] };
 
     ghost field_types = { signed w16 ∷ [] };
 
@@ -22,22 +22,18 @@ impl NativeType for i16 {
         0
     }
 
-    fn is_same(self, rhs: i16) -> bool {
-        self == rhs
-    }
-
     ghost fields_law = { refl };
 
     ghost numbers_law = { λ x. refl };
 
-    ghost fits_law = { Prim.search rules };
+    ghost one_value_law = { Prim.search rules };
 
     ghost same_law = { Prim.search rules };
 }
 
 #[tactic(auto, using(crate::proofs::WholeLemmas::signed_answers))]
 impl NativeWhole for i16 {
-    ghost value = { λ n. nearest_number (signed w16) n };
+    ghost value = { λ n. n };
 
     ghost whole_type = { signed w16 };
 

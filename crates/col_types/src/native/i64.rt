@@ -2,7 +2,7 @@
 ghost use Rattle.std.specs.Prelude.{◌-◌, ◌^◌, [], ◌∷◌, pos, negsuc, true, refl};
 ghost use Rattle.std.specs.Int.{w64};
 ghost use Rattle.std.proofs.Common.{rules};
-ghost use Rattle.col_model.specs.Whole.{nearest_number, signed};
+ghost use Rattle.col_model.specs.Whole.{signed};
 ghost use Rattle.col_types.specs.declared.datatypes.IntegerType.TheVariants as key;
 ghost use Rattle.col_types.specs.declared.datatypes.physical_type.PrimitiveType.TheVariants as name;
 
@@ -12,7 +12,7 @@ use crate::native::{
 };
 
 impl NativeType for i64 {
-    ghost numbers = { λ n. nearest_number (signed w64) n ∷ [] };
+    ghost numbers = { λ n. n ∷ [] };
 
     ghost field_types = { signed w64 ∷ [] };
 
@@ -24,22 +24,18 @@ impl NativeType for i64 {
         0
     }
 
-    fn is_same(self, rhs: i64) -> bool {
-        self == rhs
-    }
-
     ghost fields_law = { refl };
 
     ghost numbers_law = { λ x. refl };
 
-    ghost fits_law = { Prim.search rules };
+    ghost one_value_law = { Prim.search rules };
 
     ghost same_law = { Prim.search rules };
 }
 
 #[tactic(auto, using(crate::proofs::WholeLemmas::signed_answers))]
 impl NativeWhole for i64 {
-    ghost value = { λ n. nearest_number (signed w64) n };
+    ghost value = { λ n. n };
 
     ghost whole_type = { signed w64 };
 

@@ -3,7 +3,7 @@ ghost use Rattle.std.specs.Prelude.{[], ◌∷◌, refl};
 ghost use Rattle.std.specs.Int.{w32, w64};
 ghost use Rattle.std.proofs.Common.{rules};
 ghost use Rattle.std.proofs.lemmas.Bool.Decides.{Decides-and, Decides-int_eq};
-ghost use Rattle.col_model.specs.Whole.{nearest_number, signed};
+ghost use Rattle.col_model.specs.Whole.{signed};
 ghost use Rattle.col_types.specs.declared.datatypes.physical_type.PrimitiveType.TheVariants as name;
 
 use crate::datatypes::PrimitiveType;
@@ -11,8 +11,7 @@ use crate::native::{NativeNegate, NativeType};
 use crate::types::months_days_ns;
 
 impl NativeType for months_days_ns {
-    ghost numbers = { λ x. nearest_number (signed w32) x.months
-        ∷ nearest_number (signed w32) x.days ∷ nearest_number (signed w64) x.ns ∷ [] };
+    ghost numbers = { λ x. x.months ∷ x.days ∷ x.ns ∷ [] };
 
     ghost field_types = { signed w32 ∷ signed w32 ∷ signed w64 ∷ [] };
 
@@ -24,15 +23,11 @@ impl NativeType for months_days_ns {
         months_days_ns::new(0, 0, 0)
     }
 
-    fn is_same(self, rhs: months_days_ns) -> bool {
-        self == rhs
-    }
-
     ghost fields_law = { refl };
 
     ghost numbers_law = { λ x. refl };
 
-    ghost fits_law = { Prim.search rules };
+    ghost one_value_law = { Prim.search rules };
 
     ghost same_law = { λ x y.
         let fields = Decides-and _ _ (Decides-int_eq x.months y.months)

@@ -2,7 +2,7 @@
 ghost use Rattle.std.specs.Prelude.{◌-◌, ◌^◌, [], ◌∷◌, pos, refl};
 ghost use Rattle.std.specs.Int.{w32};
 ghost use Rattle.std.proofs.Common.{rules};
-ghost use Rattle.col_model.specs.Whole.{nearest_number, unsigned};
+ghost use Rattle.col_model.specs.Whole.{unsigned};
 ghost use Rattle.col_types.specs.declared.datatypes.IntegerType.TheVariants as key;
 ghost use Rattle.col_types.specs.declared.datatypes.physical_type.PrimitiveType.TheVariants as name;
 
@@ -10,7 +10,7 @@ use crate::datatypes::{IntegerType, PrimitiveType};
 use crate::native::{DictionaryKey, NativeArithmetics, NativeNegate, NativeType, NativeWhole};
 
 impl NativeType for u32 {
-    ghost numbers = { λ n. nearest_number (unsigned w32) (pos n) ∷ [] };
+    ghost numbers = { λ n. pos n ∷ [] };
 
     ghost field_types = { unsigned w32 ∷ [] };
 
@@ -22,22 +22,18 @@ impl NativeType for u32 {
         0
     }
 
-    fn is_same(self, rhs: u32) -> bool {
-        self == rhs
-    }
-
     ghost fields_law = { refl };
 
     ghost numbers_law = { λ x. refl };
 
-    ghost fits_law = { Prim.search rules };
+    ghost one_value_law = { Prim.search rules };
 
     ghost same_law = { Prim.search rules };
 }
 
 #[tactic(auto, using(crate::proofs::WholeLemmas::unsigned_answers))]
 impl NativeWhole for u32 {
-    ghost value = { λ n. nearest_number (unsigned w32) (pos n) };
+    ghost value = { pos };
 
     ghost whole_type = { unsigned w32 };
 
