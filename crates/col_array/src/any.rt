@@ -2,7 +2,6 @@
 ghost use Rattle.std.specs.Prelude.{◌≡◌, ◌≢◌, ◌+◌, ◌<◌, ◌≤◌, ◌↔◌, IsTrue, IsOk, IfErr, IfOk, Some};
 ghost use Rattle.std.specs.Prelude.{replicate, slice_get};
 ghost use Rattle.col_model.specs.Cell.{null};
-ghost use Rattle.col_types.specs.CellOf.{HoldsItsCells};
 ghost use Rattle.col_types.specs.DataKind.{kind_of};
 ghost use Rattle.col_types.specs.DataType.{IsMadeOf, IsStoredAs, type_error};
 ghost use Rattle.col_types.specs.Answer.{ButForMemory, FailsByMemory, UnlessMemory};
@@ -84,14 +83,6 @@ impl AnyArray {
         ensures { result ≡ null_count_of (any_column self.now).cells }
     {
         with_typed!(AnyArray, self, |array| array.null_count())
-    }
-
-    /// Each slot is null or holds what the array's type has. There is nothing to look at: each
-    /// array is so.
-    pub fn holds_its_cells(&self)
-        ensures { HoldsItsCells (any_column self.now) }
-    {
-        with_typed!(AnyArray, self, |array| array.holds_its_cells())
     }
 
     /// The array's type.

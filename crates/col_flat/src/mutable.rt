@@ -1,5 +1,6 @@
 //! Arrays that are made slot by slot.
-ghost use Rattle.std.specs.Prelude.{[], ◌≡◌, ◌∷◌, ◌++◌, ◌↔◌, IfErr, IfOk, IsOk, map, option_map};
+ghost use Rattle.std.specs.Prelude.{[], ◌≡◌, ◌∷◌, ◌++◌, ◌↔◌, IfErr, IfOk, IsOk, OnErr, map};
+ghost use Rattle.std.specs.Prelude.{option_map};
 ghost use Rattle.col_types.specs.Answer.{ButForMemory, FailsByMemory, UnlessMemory};
 ghost use Rattle.col_types.specs.DataKind.{kind_of};
 ghost use Rattle.col_types.specs.DataType.{IsMadeOf, type_error};
@@ -54,11 +55,12 @@ impl<T: NativeType> MutablePrimitiveArray<T> {
         Ok(made)
     }
 
-    /// Adds a slot behind the others.
+    /// Adds a slot behind the others. A refusal leaves them as they were.
     #[inline]
     pub fn push(&mut self, slot: Option<T>) -> Result<(), Error>
         ensures value { IfOk result (λ _. self.new ≡ self.old ++ option_map T.numbers slot ∷ []) }
         ensures refused { FailsByMemory result }
+        ensures kept { OnErr result (self.new ≡ self.old) }
     {
         self.values.push(slot.unwrap_or(T::zero()))?;
         let Ok(()) = self.flags.push(slot.is_some()) else {

@@ -5,7 +5,6 @@ ghost use Rattle.std.specs.Prelude.{unwrap_or, vec_len};
 ghost use Rattle.std.specs.Option.{ForSome, option_copied};
 ghost use Rattle.col_buf.specs.Cut.{IsWithin, cut};
 ghost use Rattle.col_model.specs.Cell.{null};
-ghost use Rattle.col_types.specs.CellOf.{HoldsItsCells};
 ghost use Rattle.col_types.specs.DataKind.{kind_of};
 ghost use Rattle.col_types.specs.DataType.{IsMadeOf, type_error};
 ghost use Rattle.col_types.specs.Answer.{ButForMemory, FailsByMemory, UnlessMemory};
@@ -212,14 +211,6 @@ impl<T: NativeType> PrimitiveArray<T> {
         }
     }
 
-    /// Each slot is null or holds what the array's type has. There is nothing to look at: each
-    /// array is so.
-    pub fn holds_its_cells(&self)
-        ensures { HoldsItsCells (column_of self.now) }
-    {
-        let _ = &self.values;
-    }
-
     /// The array's type.
     pub fn data_type(&self) -> &DataType
         ensures value { kind_of result.now ≡ (column_of self.now).data_type }
@@ -378,7 +369,7 @@ pub(crate) fn is_same<T: NativeType>(lhs: Option<T>, rhs: Option<T>) -> bool
     ensures { IsTrue result ↔ (native_cell T.numbers lhs ≡ native_cell T.numbers rhs) }
 {
     match (lhs, rhs) {
-        (Some(a), Some(b)) => a.is_same(b),
+        (Some(a), Some(b)) => a == b,
         (None, None) => true,
         _ => false,
     }
