@@ -64,6 +64,7 @@ pub record GivesNull (operation : Operation) (form : Form) (t : WholeType)
   pub step : whole_step operation form t x y ≡ Ok null
   pub flag : is_flagged operation t x y ≡ false
 
+-- so it is for each step, in each form, at each type
 abbrev pub NullGivesNull : Type 0
 NullGivesNull =
     (operation : Operation) (form : Form) (t : WholeType) (x y : Cell)

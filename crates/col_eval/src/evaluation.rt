@@ -85,6 +85,7 @@ fn step(alloc: Global, op: Op, lhs: &AnyArray, rhs: &AnyArray) -> Result<AnyArra
             Ok(AnyArray::Int64(sums))
         }
         (lhs, rhs) => {
+            // The types tell the prover which variants there can be.
             let _left_type = lhs.data_type();
             let _right_type = rhs.data_type();
             unreachable!("a step with an entry has Int64 operands: the type tells the variant")
@@ -111,6 +112,7 @@ fn step_scalar(alloc: Global, op: Op, lhs: &AnyArray, rhs: &AnyScalar) -> Result
             None => nulls_like(alloc, lhs),
         },
         (lhs, rhs) => {
+            // The types tell the prover which variants there can be.
             let _left_type = lhs.data_type();
             let _right_type = rhs.data_type();
             unreachable!("a step with an entry has Int64 operands: the type tells the variant")

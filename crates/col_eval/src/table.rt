@@ -2,7 +2,6 @@
 ghost use Rattle.std.specs.Prelude.{◌≡◌, ◌<◌, ◌^◌, ◌==◌, IsTrue, IfOk, IfErr, Some, length, map};
 ghost use Rattle.std.specs.Prelude.{slice_get, vec_len, IsOk, ◌↔◌};
 ghost use Rattle.std.specs.List.{list_all};
-ghost use Rattle.col_types.specs.CellOf.{is_typed_column};
 ghost use Rattle.col_types.specs.Column.{is_table, row_count, table_row_count};
 ghost use Rattle.col_types.specs.declared.error.Error.TheVariants.{InvalidArgumentError};
 ghost use Rattle.col_types.specs.declared.error.Reason.TheVariants.{Lengths};
@@ -70,14 +69,6 @@ impl Table {
         self.columns.len()
     }
 
-    /// Each slot of each column is null or holds what the column's type has. No slot is looked at:
-    /// each table is so.
-    pub fn holds_its_cells(&self)
-        ensures { IsTrue (list_all is_typed_column self.now) }
-    {
-        hold_their_cells(self.columns.as_slice());
-    }
-
     /// The column at a position.
     pub fn column(&self, i: usize) -> &AnyArray
         requires { i < length self.now }
@@ -95,15 +86,6 @@ fn first_length(columns: &[AnyArray]) -> usize
     match columns {
         [] => 0,
         [column, ..] => column.len(),
-    }
-}
-
-// Each column holds cells of its type.
-fn hold_their_cells(columns: &[AnyArray])
-    ensures { IsTrue (list_all is_typed_column (map any_column columns.now)) }
-{
-    for column in columns {
-        column.holds_its_cells();
     }
 }
 

@@ -12,7 +12,7 @@ use col_flat::PrimitiveArray;
 use col_types::{Error, NativeArithmetics};
 use std::alloc::Global;
 
-/// The sums, row by row; null beside a null. The answer has the left array's type.
+/// Adds two arrays row by row. A row where either slot is null is null; the type is that of `lhs`.
 ///
 /// Refused, in this order: `Lengths` exactly where the arrays differ in length; `Overflow` exactly
 /// where some row has two valid slots whose sum does not fit.
@@ -29,8 +29,8 @@ pub fn add<T: NativeArithmetics>(
     try_binary(alloc, lhs, rhs, data_type, plain_sum)
 }
 
-/// The sums, row by row; null beside a null, and where the sum does not fit. The answer has the
-/// left array's type.
+/// Adds two arrays row by row. A row where either slot is null, or whose sum does not fit, is null;
+/// the type is that of `lhs`.
 ///
 /// Refused: `Lengths` exactly where the arrays differ in length.
 pub fn checked_add<T: NativeArithmetics>(
@@ -46,7 +46,7 @@ pub fn checked_add<T: NativeArithmetics>(
     binary_checked(alloc, lhs, rhs, data_type, checked_sum)
 }
 
-/// The sum of each slot and a number; null at a null. The answer has the array's type.
+/// Adds a number to each slot. A null slot stays null; the type is that of `lhs`.
 ///
 /// Refused: `Overflow` exactly where the sum of some valid slot and the number does not fit.
 pub fn add_scalar<T: NativeArithmetics>(
@@ -63,8 +63,8 @@ pub fn add_scalar<T: NativeArithmetics>(
     try_unary(alloc, lhs, |a| plain_sum(a, rhs), data_type)
 }
 
-/// The sum of each slot and a number; null at a null, and where the sum does not fit. The answer
-/// has the array's type. No row is refused.
+/// Adds a number to each slot. A null slot stays null, and a slot whose sum does not fit is null;
+/// the type is that of `lhs`. No row is refused.
 pub fn checked_add_scalar<T: NativeArithmetics>(
     alloc: Global,
     lhs: &PrimitiveArray<T>,
