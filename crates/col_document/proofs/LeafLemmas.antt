@@ -13,8 +13,8 @@ use Rattle.col_document.specs.Document.{cell_read, literal_read, piece_read, pos
 use Rattle.col_document.specs.Document.{step_named, type_read, word_read}
 use Rattle.col_document.specs.Json.{◌>>=◌, each}
 use Rattle.col_document.specs.Laws.{HaveLeaves, spelling}
-use Rattle.col_document.proofs.Lists.{bind_some, option_cons-some}
-use Rattle.col_document.proofs.Spelling.{spelling-of_tree, tree-of_spelling}
+use Rattle.col_document.proofs.ListLemmas.{bind_some, option_cons-some}
+use Rattle.col_document.proofs.SpellingLemmas.{spelling-of_tree, tree-of_spelling}
 
 -- an item that is a leaf has one level
 abbrev IsPlain : Piece → Type 0

@@ -1,6 +1,7 @@
-pub mod Leaves
-pub mod Lists
-pub mod NumberTexts
-pub mod PositionNames
-pub mod Readings
-pub mod Spelling
+pub mod HeldLemmas
+pub mod LeafLemmas
+pub mod ListLemmas
+pub mod NumberTextLemmas
+pub mod PositionLemmas
+pub mod ReadingLemmas
+pub mod SpellingLemmas

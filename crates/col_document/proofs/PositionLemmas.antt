@@ -1,29 +1,24 @@
 -- The names of positions.
-use Rattle.std.proofs.Common.{◌≡◌, ℕ, zero, suc, ◌^◌, ◌<◌, Bool, true, false, not, ◌&&◌, ◌||◌}
+use Rattle.std.proofs.Common.{◌≡◌, ℕ, zero, suc, ◌^◌, ◌<◌, true, not, ◌&&◌, ◌||◌}
 use Rattle.std.proofs.Common.{◌==◌, List, [], ◌∷◌, ◌++◌, length, get_or, Some, refl, sym, arith}
 use Rattle.std.specs.Prelude.{slice_index, codes}
 use Rattle.std.specs.Fmt.{decimal}
 use Rattle.std.specs.Str.Parse.{digits_value}
-use Rattle.std.proofs.lemmas.Bool.{false≢true}
+use Rattle.std.proofs.lemmas.Bool.{and_parts}
 use Rattle.std.proofs.lemmas.Bool.Decides.{Decides-eqb, Decides-ltb, nat_tests}
 use Rattle.std.proofs.lemmas.Fmt.{decimal_digit, decimal_is_IsNumeral, decimal-digits_value}
 use Rattle.std.proofs.lemmas.Fmt.{first_decimal}
 use Rattle.std.proofs.lemmas.Option.{cond_some, none-some}
 use Rattle.std.proofs.lemmas.Str.Parse.{numerals_by_value, tells_all_ascii_digits}
 use Rattle.col_document.specs.Document.{is_digits, is_shortest, position_named}
-use Rattle.col_document.proofs.NumberTexts.{Decides-is_digits}
-
--- both tests of two hold
-both : (x y : Bool) → (x && y) ≡ true → (x ≡ true) × (y ≡ true)
-both true y e = (refl, e)
-both false y e = absurd (false≢true e)
+use Rattle.col_document.proofs.NumberTextLemmas.{Decides-is_digits}
 
 -- the shortest digits of a number are its text
 decimal-shortest : (digits : List ℕ) → is_shortest digits ≡ true → digits_value 10 digits < 2 ^ 32
     → digits ≡ decimal (digits_value 10 digits)
 decimal-shortest digits e h =
     let own = numerals_by_value _ tells_all_ascii_digits in
-    let parts = both (is_digits digits) _ e in
+    let parts = and_parts (is_digits digits) _ e in
     let numeral = (Decides-is_digits digits).0 parts.0 in
     sym (decimal-digits_value own digits (own.from digits numeral.1) numeral.0
     (λ z. grind (arith, nat_tests)) (omega arith))
@@ -48,10 +43,10 @@ pub position-from_name : (text : List ℕ) (i : ℕ) → position_named text ≡
 position-from_name [] i e = absurd (none-some i e)
 position-from_name (c ∷ digits) i e =
     let found = cond_some _ (digits_value 10 digits) i e in
-    let tests = both (c == 99 && is_shortest digits) _ found.0 in
+    let tests = and_parts (c == 99 && is_shortest digits) _ found.0 in
     let small : digits_value 10 digits < 2 ^ 32 = (Decides-ltb _ (2 ^ 32)).0 tests.1 in
-    let first : c ≡ 99 = (Decides-eqb c 99).0 (both (c == 99) (is_shortest digits) tests.0).0 in
-    let rest = decimal-shortest digits (both (c == 99) (is_shortest digits) tests.0).1 small in
+    let first : c ≡ 99 = (Decides-eqb c 99).0 (and_parts (c == 99) (is_shortest digits) tests.0).0 in
+    let rest = decimal-shortest digits (and_parts (c == 99) (is_shortest digits) tests.0).1 small in
     (cc, omega arith)
 
 -- a position has its name

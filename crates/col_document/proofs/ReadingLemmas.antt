@@ -1,7 +1,7 @@
 -- What the parts of a document give for the whole.
 use Rattle.std.proofs.Common.{◌≡◌, ℕ, suc, ◌^◌, Bool, true, false, cond, ◌&&◌, List, length}
-use Rattle.std.proofs.Common.{Option, Some, None, Result, Ok, Err, refl, sym, ap, ◌∙◌}
-use Rattle.std.specs.Prelude.{codes, nat_lt, option_map, option_and_then, IfOk, ◌↔◌, IsUtf8}
+use Rattle.std.proofs.Common.{Option, Some, None, Result, refl, sym, ap, ◌∙◌}
+use Rattle.std.specs.Prelude.{codes, nat_lt, option_map, option_and_then, IsUtf8}
 use Rattle.std.specs.Str.{is_utf8}
 use Rattle.std.proofs.lemmas.Str.{IsUtf8-from_is_utf8, is_utf8-from_IsUtf8}
 use Rattle.std.proofs.lemmas.Option.{same_Some}
@@ -17,7 +17,7 @@ use Rattle.col_document.specs.declared.document.ReadError.TheVariants.{Memory, M
 use Rattle.col_document.specs.Document.{DocumentView, column_read, document_of, document_read}
 use Rattle.col_document.specs.Document.{int64_read, tree_read, type_read}
 use Rattle.col_document.specs.Json.{◌>>=◌, each, item_count}
-use Rattle.col_document.proofs.Lists.{option_cons-some}
+use Rattle.col_document.proofs.ListLemmas.{option_cons-some}
 use Rattle.col_document.specs.Reading.{IsUnread, Reads, only_table}
 
 -- ---- answers

@@ -1,5 +1,5 @@
 -- Trees and the items that they are written as.
-use Rattle.std.proofs.Common.{◌≡◌, ◌<◌, ◌≤◌, true, cond, List, [], ◌∷◌, ◌++◌, Some, None, refl}
+use Rattle.std.proofs.Common.{◌≡◌, ◌≤◌, true, cond, List, [], ◌∷◌, ◌++◌, Some, None, refl}
 use Rattle.std.proofs.Common.{sym, ap, ◌∙◌, subst, arith, append_assoc, append-nil}
 use Rattle.std.specs.Prelude.{nat_le, ⊤}
 use Rattle.std.proofs.lemmas.Option.{cond_some, none-some, same_Some}
@@ -11,7 +11,7 @@ use Rattle.col_document.specs.Document.{Piece, leaf, named, only_tree, with_piec
 use Rattle.col_document.specs.Document.{with_step}
 use Rattle.col_eval.proofs.TreeLemmas.{level_count-positive}
 use Rattle.col_document.specs.Json.{◌>>=◌}
-use Rattle.col_document.proofs.Lists.{bind_some}
+use Rattle.col_document.proofs.ListLemmas.{bind_some}
 use Rattle.col_document.specs.Laws.{HaveLeaves, spelling}
 
 -- a tree of one level is its own spelling

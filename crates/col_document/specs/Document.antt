@@ -7,10 +7,10 @@ use Rattle.std.specs.Str.Parse.{digits_value, signed_digits_value, without_leadi
 use Rattle.std.specs.Int.{w64}
 use Rattle.serde_json.specs.Data.{Data}
 use Rattle.serde_json.specs.Data as json
-use Rattle.serde_json.specs.Find.{get, as_array, as_i64, as_str}
+use Rattle.serde_json.specs.Find.{get, as_array, as_integer, as_str}
 use Rattle.serde_json.specs.Read.{read}
 use Rattle.col_model.specs.Cell.{Cell, null, whole}
-use Rattle.col_model.specs.Whole.{WholeType, signed, unsigned, is_fitting}
+use Rattle.col_model.specs.Whole.{checked_number, WholeType, signed, unsigned, is_fitting}
 use Rattle.col_types.specs.Column.{Column, is_table}
 use Rattle.col_types.specs.DataKind.{DataKind}
 use Rattle.col_types.specs.DataKind as kind
@@ -68,7 +68,7 @@ type_named text = if bytes_eq text (type_text kind.int64) then Some kind.int64 e
 abbrev pub int64_read : Data → Option Cell
 int64_read json.null = Some null
 int64_read (json.boolean b) = None
-int64_read (json.number n) = option_map whole (as_i64 n)
+int64_read (json.number n) = option_map whole (as_integer n >>= checked_number (signed w64))
 int64_read (json.string text) = option_map whole (number_read (signed w64) text)
 int64_read (json.array items) = None
 int64_read (json.object ms) = None

@@ -1,5 +1,5 @@
 -- Small readings of JSON values, each giving a value or nothing.
-use Rattle.std.specs.Prelude.{ℕ, suc, List, [], ◌∷◌, Option, Some, option_and_then}
+use Rattle.std.specs.Prelude.{ℕ, suc, List, [], Option, Some, option_and_then}
 use Rattle.serde_json.specs.Data.{Data, Items, no_items, item}
 use Rattle.col_model.specs.Whole.{option_cons}
 
@@ -13,6 +13,7 @@ abbrev pub each : {A : Type 0} → (Data → Option A) → Items → Option (Lis
 each read_one no_items = Some []
 each read_one (item d ds) = option_cons (read_one d) (each read_one ds)
 
+-- how many items there are
 abbrev pub item_count : Items → ℕ
 item_count no_items = 0
 item_count (item d ds) = suc (item_count ds)

@@ -1,11 +1,14 @@
 -- Laws of the definitions of documents.
-use Rattle.std.specs.Prelude.{◌≡◌, ℕ, ◌^◌, ◌<◌, ◌≤◌, ◌↔◌, List, [], ◌∷◌, ◌++◌, codes, Some, ⊤}
+use Rattle.std.specs.Prelude.{◌≡◌, ℕ, ◌^◌, ◌<◌, ◌≤◌, ◌↔◌, List, [], ◌∷◌, ◌++◌, codes, Some, IsTrue}
+use Rattle.std.specs.Prelude.{⊤}
+use Rattle.std.specs.List.{list_all}
 use Rattle.std.specs.Fmt.{decimal}
 use Rattle.serde_json.specs.Data.{Items, array}
 use Rattle.col_eval.specs.Tree.{Tree, column, literal, step, level_count}
 use Rattle.col_eval.specs.Typing.{max_levels}
 use Rattle.col_document.specs.Document.{Piece, leaf, named, only_tree, piece_read, position_named}
-use Rattle.col_document.specs.Document.{tree_read, with_pieces}
+use Rattle.col_types.specs.CellOf.{is_typed_column}
+use Rattle.col_document.specs.Document.{DocumentView, document_of, tree_read, with_pieces}
 use Rattle.col_document.specs.Json.{◌>>=◌, each}
 
 -- the items that a tree is written as: those of its left operand, of its right one, then the step
@@ -36,3 +39,8 @@ IsReadFromItsSpelling = (items : Items) (t : Tree) →
 abbrev pub NamesItsPosition : Type 0
 NamesItsPosition = (text : List ℕ) (i : ℕ) →
     (position_named text ≡ Some i) ↔ ((text ≡ codes "c" ++ decimal i) × (i < 2 ^ 32))
+
+-- the columns of a document's table hold cells of their types
+abbrev pub DocumentHoldsItsCells : Type 0
+DocumentHoldsItsCells = (bytes : List ℕ) (d : DocumentView) → document_of bytes ≡ Some d
+    → IsTrue (list_all is_typed_column d.table)

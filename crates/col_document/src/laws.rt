@@ -1,5 +1,6 @@
 //! What holds of the definitions, as facts of their own.
-ghost use Rattle.col_document.specs.Laws.{IsReadFromItsSpelling, IsSpelledInOneWay};
+ghost use Rattle.col_document.specs.Laws.{DocumentHoldsItsCells, IsReadFromItsSpelling};
+ghost use Rattle.col_document.specs.Laws.{IsSpelledInOneWay};
 ghost use Rattle.col_document.specs.Laws.{NamesItsPosition};
 
 /// A list of items leaves a tree exactly where it is the tree's spelling in postfix order, and the
@@ -17,4 +18,9 @@ pub fn a_tree_is_read_from_its_spelling()
 /// A column's name tells a position exactly where it is `c` and the position's digits.
 pub fn a_column_name_is_its_position()
     ensures { NamesItsPosition }
+{}
+
+/// Each cell of a document's table is one of its column's type.
+pub fn a_document_holds_its_cells()
+    ensures { DocumentHoldsItsCells }
 {}

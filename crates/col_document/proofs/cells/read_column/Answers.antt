@@ -1,6 +1,6 @@
 use Rattle.std.proofs.Common.{Some, sym, ap, ◌∙◌}
 use Rattle.serde_json.specs.View.{view}
-use Rattle.col_document.proofs.Readings.{column_read-int64}
+use Rattle.col_document.proofs.ReadingLemmas.{column_read-int64}
 use Rattle.col_document.proofs.cells.read_column.Goals as goal
 
 pub returns-in-Ok : goal.returns-in-Ok

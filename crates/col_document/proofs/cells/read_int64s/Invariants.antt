@@ -4,7 +4,7 @@ use Rattle.serde_json.specs.View.{items_view}
 use Rattle.col_flat.specs.Parts.{slot_cell}
 use Rattle.col_document.specs.Document.{int64_read}
 use Rattle.col_document.specs.Json.{each}
-use Rattle.col_document.proofs.Lists.{front}
+use Rattle.col_document.proofs.ListLemmas.{front}
 use Rattle.col_document.proofs.cells.read_int64s.Given as goal
 
 abbrev pub invariant-loop-value : goal.invariant-loop-value

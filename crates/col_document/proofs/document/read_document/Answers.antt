@@ -1,6 +1,6 @@
 use Rattle.col_document.specs.View.{document_view}
-use Rattle.col_document.proofs.Readings.{Reads-same, document_of-read, document_of-unread}
-use Rattle.col_document.proofs.Readings.{unread-where}
+use Rattle.col_document.proofs.ReadingLemmas.{Reads-same, document_of-read, document_of-unread}
+use Rattle.col_document.proofs.ReadingLemmas.{unread-where}
 use Rattle.col_document.proofs.document.read_document.Goals as goal
 
 pub returns-in-Ok : goal.returns-in-Ok

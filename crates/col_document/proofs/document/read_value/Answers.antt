@@ -4,7 +4,7 @@ use Rattle.std.proofs.lemmas.Result.{err_from_is_err_and}
 use Rattle.serde_json.specs.View.{view}
 use Rattle.col_array.specs.Any.{any_column}
 use Rattle.col_document.specs.Reading.{only_table}
-use Rattle.col_document.proofs.Readings.{none-mapped, document_read-parts}
+use Rattle.col_document.proofs.ReadingLemmas.{none-mapped, document_read-parts}
 use Rattle.col_document.proofs.document.read_value.Goals as goal
 
 pub returns-in_err-table : goal.returns-in_err-table

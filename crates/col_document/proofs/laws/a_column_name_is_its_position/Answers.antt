@@ -1,4 +1,4 @@
-use Rattle.col_document.proofs.PositionNames.{position-from_name, name-of_position}
+use Rattle.col_document.proofs.PositionLemmas.{position-from_name, name-of_position}
 use Rattle.col_document.proofs.laws.a_column_name_is_its_position.Goals as goal
 
 pub returns : goal.returns

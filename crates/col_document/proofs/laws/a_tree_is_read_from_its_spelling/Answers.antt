@@ -1,4 +1,4 @@
-use Rattle.col_document.proofs.Leaves.{spelling-read, tree-read_from_spelling}
+use Rattle.col_document.proofs.LeafLemmas.{spelling-read, tree-read_from_spelling}
 use Rattle.col_document.proofs.laws.a_tree_is_read_from_its_spelling.Goals as goal
 
 pub returns : goal.returns

@@ -2,7 +2,7 @@ use Rattle.std.specs.Prelude.{[]}
 use Rattle.std.proofs.Common.{◌∙◌, ap}
 use Rattle.col_document.specs.Document.{only_tree, with_pieces}
 use Rattle.col_document.specs.Json.{◌>>=◌}
-use Rattle.col_document.proofs.Spelling.{spelling-of_tree, tree-of_spelling}
+use Rattle.col_document.proofs.SpellingLemmas.{spelling-of_tree, tree-of_spelling}
 use Rattle.col_document.proofs.laws.a_tree_is_spelled_in_one_way.Goals as goal
 
 pub returns : goal.returns

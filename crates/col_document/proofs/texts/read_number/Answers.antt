@@ -1,5 +1,5 @@
 use Rattle.std.proofs.Common.{◌∙◌}
-use Rattle.col_document.proofs.NumberTexts.{number_read-parsed}
+use Rattle.col_document.proofs.NumberTextLemmas.{number_read-parsed}
 use Rattle.col_document.proofs.texts.read_number.Goals as goal
 
 pub returns : goal.returns

@@ -1,5 +1,5 @@
 use Rattle.std.proofs.Common.{◌∙◌, sym}
-use Rattle.col_document.proofs.NumberTexts.{shortest-parsed}
+use Rattle.col_document.proofs.NumberTextLemmas.{shortest-parsed}
 use Rattle.col_document.proofs.texts.read_shortest.Goals as goal
 
 pub returns-then-begins_shortest : goal.returns-then-begins_shortest
