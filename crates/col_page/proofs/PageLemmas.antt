@@ -3,11 +3,11 @@ use Rattle.std.proofs.Common.{◌≡◌, ℕ, ◌+◌, suc, zero, Bool, true, fa
 use Rattle.std.proofs.Common.{map, take}
 use Rattle.std.proofs.Common.{slice_get, Some, refl, ap, sym, ◌∙◌, add-one, append_assoc}
 use Rattle.std.specs.List.{join_with_byte, flat_map, list_any}
-use Rattle.std.proofs.lemmas.List.{append-nil, map-append}
+use Rattle.std.proofs.lemmas.List.{append-nil}
 use Rattle.std.proofs.lemmas.Grind.{flat_map-append}
 use Rattle.std.proofs.lemmas.List.Recursion.{or_push}
 use Rattle.col_model.specs.Cell.{Cell}
-use Rattle.col_page.specs.Page.{cell_text, cells_text, comma_unless, rest_text}
+use Rattle.col_page.specs.Page.{cell_text, cells_text, comma_unless}
 
 -- the front of a list, with what stands next
 take_suc-next : {X : Type 0} (xs : List X) (i : ℕ) (x : X) → slice_get xs i ≡ Some x
@@ -19,6 +19,12 @@ take_suc-next {X} (y ∷ xs) (suc i) x h = ap (λ (rest : List X). y ∷ rest) (
 take-next : {X : Type 0} (xs : List X) (i : ℕ) (x : X) → slice_get xs i ≡ Some x
     → take (i + 1) xs ≡ take i xs ++ x ∷ []
 take-next xs i x h = rw add-one (take_suc-next xs i x h)
+
+-- the cells that are left, behind the ones before them unless there are none
+abbrev pub rest_text : Bool → List Cell → List ℕ
+rest_text is_first [] = []
+rest_text is_first (c ∷ cells) =
+    comma_unless is_first ++ (cell_text c ++ rest_text false cells)
 
 -- the cells that are left behind others, and all of them joined
 join-rest : (c : Cell) (cells : List Cell)

@@ -1,5 +1,5 @@
 -- Pages: a line for each tree of a document.
-use Rattle.std.specs.Prelude.{◌≡◌, ℕ, Bool, true, false, List, [], ◌∷◌, ◌++◌, map, codes}
+use Rattle.std.specs.Prelude.{◌≡◌, ℕ, Bool, true, false, List, [], ◌++◌, map, codes}
 use Rattle.std.specs.Prelude.{is_err, Result, Ok, Err}
 use Rattle.std.specs.Fmt.{signed_decimal}
 use Rattle.std.specs.List.{flat_map, join_with_byte, list_any}
@@ -31,12 +31,6 @@ cells_text cells = codes "[" ++ join_with_byte 44 (map cell_text cells) ++ codes
 abbrev pub comma_unless : Bool → List ℕ
 comma_unless true = []
 comma_unless false = codes ","
-
--- the cells that are left, behind the ones before them unless there are none
-abbrev pub rest_text : Bool → List Cell → List ℕ
-rest_text is_first [] = []
-rest_text is_first (c ∷ cells) =
-    comma_unless is_first ++ (cell_text c ++ rest_text false cells)
 
 -- the name of an error's variant
 abbrev pub error_name : Error → List ℕ

@@ -5,6 +5,7 @@ use Rattle.std.specs.List.{list_any}
 use Rattle.col_run.specs.declared.source.Failed.{Failed}
 use Rattle.col_run.specs.Faults.{last_count}
 
+-- how a sink in memory stands
 pub record SinkState : Type 0 where
   pub written : List ℕ
   -- how many bytes it still takes

@@ -1,6 +1,6 @@
 use Rattle.std.proofs.Common.{◌≡◌, ◌++◌, map}
 use Rattle.col_flat.specs.Parts.{column_of, slot_cell}
-use Rattle.col_page.specs.Page.{rest_text}
+use Rattle.col_page.proofs.PageLemmas.{rest_text}
 use Rattle.col_page.proofs.page.push_cells.Given as goal
 
 -- the text so far with the cells that are left is the text with all cells
