@@ -1,6 +1,6 @@
 //! Checks of `col_flat`: slots and masks, and which parts make an array.
 use col_buf::{Bitmap, Buffer};
-use col_flat::{PrimitiveArray, PrimitiveScalar, combine_validities};
+use col_flat::{MutablePrimitiveArray, PrimitiveArray, PrimitiveScalar, combine_validities};
 use col_types::{DataType, Error, IntervalUnit, NativeType, Reason, TimeUnit, months_days_ns};
 use std::alloc::Global;
 
@@ -112,6 +112,17 @@ fn each_call_of_col_flat_answers_with_ample_memory(rt: HostRuntime) -> Result<()
     let span = months_days_ns::new(1, -2, 3);
     let answers = answers_all(alloc, &data_type, &[None, Some(span), Some(span)])?;
     assert_eq!(rt; answers, [true; 4], "spans");
+    Ok(())
+}
+
+#[test]
+fn slots_that_are_pushed_make_an_array(rt: HostRuntime) -> Result<(), Error> {
+    let alloc = rt.alloc();
+    let mut slots = MutablePrimitiveArray::with_capacity(alloc, 1)?;
+    slots.push(Some(7))?;
+    slots.push(None)?;
+    let array = slots.into_array(alloc, DataType::Int64)?;
+    assert!(rt; has_slots(&array, &[Some(7i64), None]), "7 and a null");
     Ok(())
 }
 
