@@ -9,20 +9,16 @@ fn is_null_throughout(array: &AnyArray, data_type: &DataType, count: usize) -> b
     array.data_type().equal(data_type) && array.len() == count && array.null_count() == count
 }
 
-// Whether a copy of an array is equal to it, and a cut of the copy too.
-fn is_copied(alloc: Global, array: &AnyArray, data_type: &DataType) -> Result<bool, Error> {
+// Whether a copy of an array is equal to it.
+fn is_copied(alloc: Global, array: &AnyArray) -> Result<bool, Error> {
     let copy = array.try_clone(alloc)?;
-    let is_equal = copy.equal(array);
-    if copy.len() < 3 {
-        return Ok(false);
-    }
-    Ok(is_equal && is_null_throughout(&copy.sliced(1, 2), data_type, 2))
+    Ok(copy.equal(array))
 }
 
 // Each call on nulls of a type.
 fn answers_nulls(alloc: Global, data_type: &DataType) -> Result<bool, Error> {
     let nulls = AnyArray::new_null(alloc, data_type.try_clone(alloc)?, 3)?;
-    Ok(is_null_throughout(&nulls, data_type, 3) && is_copied(alloc, &nulls, data_type)?)
+    Ok(is_null_throughout(&nulls, data_type, 3) && is_copied(alloc, &nulls)?)
 }
 
 #[test]

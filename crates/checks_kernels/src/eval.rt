@@ -130,19 +130,28 @@ fn steps_without_an_entry_are_refused_without_rows_too(rt: HostRuntime) -> Resul
     Ok(())
 }
 
-// Whether a tree over a table of these numbers has the slots, and a type.
-fn is_answer(
-    alloc: Global,
-    tree: &Expr,
-    slots: &[Option<i64>],
-    wanted: &[Option<i64>],
-) -> Result<bool, Error> {
-    let table = table_of(alloc, slots)?;
-    let is_typed = typed_of(alloc, &table, tree)?.equal(&DataType::Int64);
-    match &evaluate(alloc, &table, tree) {
-        Ok(array) => Ok(is_typed && array.equal(&column_of(alloc, wanted)?)),
+// Whether a tree gives a column.
+fn gives(alloc: Global, table: &Table, tree: &Expr, wanted: &AnyArray) -> Result<bool, Error> {
+    match &evaluate(alloc, table, tree) {
+        Ok(array) => Ok(array.equal(wanted)),
         Err(refusal) => Err(*refusal),
     }
+}
+
+// Whether a tree gives these slots.
+fn gives_slots(
+    alloc: Global,
+    table: &Table,
+    tree: &Expr,
+    wanted: &[Option<i64>],
+) -> Result<bool, Error> {
+    let wanted = column_of(alloc, wanted)?;
+    gives(alloc, table, tree, &wanted)
+}
+
+// Whether a tree has the type of numbers of 64 bits.
+fn is_typed(alloc: Global, table: &Table, tree: &Expr) -> Result<bool, Error> {
+    Ok(typed_of(alloc, table, tree)?.equal(&DataType::Int64))
 }
 
 #[test]
@@ -150,11 +159,21 @@ fn each_call_of_col_eval_answers_with_ample_memory(rt: HostRuntime) -> Result<()
     let tree = chain(rt.alloc(), Leaf::Column(0), Leaf::Number(Some(1)), 2)?;
     let slots = [Some(4), None, Some(i64::MAX)];
     let sums = [Some(6), None, None];
-    assert!(rt; is_answer(rt.alloc(), &tree, &slots, &sums)?, "three rows");
-    assert!(rt; is_answer(rt.alloc(), &tree, &[], &[])?, "no rows");
-    assert!(rt;
-        is_answer(rt.alloc(), &Expr::Column(0), &slots, &slots)?,
-        "a column"
-    );
+    for (slots, wanted) in [(slots.as_slice(), sums.as_slice()), (&[], &[])] {
+        let table = table_of(rt.alloc(), slots)?;
+        assert!(rt;
+            gives_slots(rt.alloc(), &table, &tree, wanted)?,
+            "{slots:?}"
+        );
+        assert!(rt; is_typed(rt.alloc(), &table, &tree)?, "{slots:?}");
+    }
+    Ok(())
+}
+
+#[test]
+fn a_column_alone_is_given_as_it_stands(rt: HostRuntime) -> Result<(), Error> {
+    let slots = [Some(4), None, Some(i64::MAX)];
+    let table = table_of(rt.alloc(), &slots)?;
+    assert!(rt; gives_slots(rt.alloc(), &table, &Expr::Column(0), &slots)?);
     Ok(())
 }
