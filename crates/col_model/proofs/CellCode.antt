@@ -4,7 +4,7 @@ use Rattle.std.specs.Prelude.{◌∷◌, refl}
 use Rattle.std.specs.Coded.{Coded, code_by, coded×, coded_list, coded_ℕ, coded_ℤ}
 use Rattle.std.proofs.Common.{ap, ◌∙◌}
 use Rattle.col_model.specs.Cell.{Cell, Elements, null, whole, truth, parts, octets, list}
-use Rattle.col_model.specs.Cell.{no_elements, element}
+use Rattle.col_model.specs.Cell.{no_elements, element, element_count}
 
 -- a token: the number of a cell's variant, a count, a number, numbers, and bytes
 abbrev pub Token : Type 0
@@ -20,14 +20,9 @@ truth_number true = 1
 truth_number false = 0
 
 -- only true is 1
-truth_number-one : (b : Bool) → (truth_number b == 1) ≡ b
+pub truth_number-one : (b : Bool) → (truth_number b == 1) ≡ b
 truth_number-one true = refl
 truth_number-one false = refl
-
--- how many elements there are
-abbrev pub element_count : Elements → ℕ
-element_count no_elements = 0
-element_count (element c es) = suc (element_count es)
 
 -- elements, and behind them others
 abbrev pub joined : Elements → Elements → Elements

@@ -1,5 +1,5 @@
 -- What a column holds at one row, and why a row is refused.
-use Rattle.std.specs.Prelude.{ℕ, ℤ, Bool, List}
+use Rattle.std.specs.Prelude.{ℕ, zero, suc, ℤ, Bool, List}
 
 -- a null, a whole number, a truth value, the numbers of an interval's parts, the bytes of a text or
 -- of a binary value, or the cells of a list's elements: a null has no value
@@ -16,6 +16,11 @@ mutual
   pub data Elements : Type 0 where
     no_elements : Elements
     element : Cell → Elements → Elements
+
+-- how many elements there are
+abbrev pub element_count : Elements → ℕ
+element_count no_elements = zero
+element_count (element c es) = suc (element_count es)
 
 -- why a step or a cast refuses a row
 pub data Cause : Type 0 where

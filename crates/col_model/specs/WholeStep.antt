@@ -101,3 +101,8 @@ abbrev pub each_row : (Cell → Cell → Result Cell Cause) → List Cell → Li
 each_row step [] right = Ok []
 each_row step (a ∷ left) [] = Ok []
 each_row step (a ∷ left) (b ∷ right) = before (step a b) (each_row step left right)
+
+-- a step at each row of one list: all its cells, or the cause at the least row that it refuses
+abbrev pub each_cell : (Cell → Result Cell Cause) → List Cell → Result (List Cell) Cause
+each_cell step [] = Ok []
+each_cell step (a ∷ cells) = before (step a) (each_cell step cells)

@@ -7,7 +7,7 @@ use Rattle.col_types.specs.DataKind as kind
 use Rattle.col_types.proofs.UnitNumber.{unit_number, unit_at, unit_at-unit_number}
 use Rattle.col_types.proofs.UnitNumber.{span_number, span_at, span_at-span_number}
 use Rattle.col_types.proofs.UnitNumber.{key_number, key_at, key_at-key_number}
-use Rattle.col_types.proofs.UnitNumber.{flag_number, flag_number-one}
+use Rattle.col_model.proofs.CellCode.{truth_number, truth_number-one}
 
 -- a level of a type: the number of its variant, two numbers, and a text
 abbrev pub Level : Type 0
@@ -43,13 +43,13 @@ levels_of kind.large_binary = level 20 0 0 [] ∷ []
 levels_of kind.utf8 = level 21 0 0 [] ∷ []
 levels_of kind.large_utf8 = level 22 0 0 [] ∷ []
 levels_of (kind.list name item is_nullable) =
-    level 23 (flag_number is_nullable) 0 name ∷ levels_of item
+    level 23 (truth_number is_nullable) 0 name ∷ levels_of item
 levels_of (kind.fixed_size_list name item is_nullable size) =
-    level 24 (flag_number is_nullable) size name ∷ levels_of item
+    level 24 (truth_number is_nullable) size name ∷ levels_of item
 levels_of (kind.large_list name item is_nullable) =
-    level 25 (flag_number is_nullable) 0 name ∷ levels_of item
+    level 25 (truth_number is_nullable) 0 name ∷ levels_of item
 levels_of (kind.dictionary k values is_ordered) =
-    level 26 (flag_number is_ordered) (key_number k) [] ∷ levels_of values
+    level 26 (truth_number is_ordered) (key_number k) [] ∷ levels_of values
 levels_of (kind.decimal precision scale) = level 27 precision scale [] ∷ []
 
 -- a type from its outermost level and the type within
@@ -115,13 +115,13 @@ kind_at-levels_of kind.large_binary = refl
 kind_at-levels_of kind.utf8 = refl
 kind_at-levels_of kind.large_utf8 = refl
 kind_at-levels_of (kind.list name item is_nullable) =
-    rw (kind_at-levels_of item, flag_number-one is_nullable)
+    rw (kind_at-levels_of item, truth_number-one is_nullable)
 kind_at-levels_of (kind.fixed_size_list name item is_nullable size) =
-    rw (kind_at-levels_of item, flag_number-one is_nullable)
+    rw (kind_at-levels_of item, truth_number-one is_nullable)
 kind_at-levels_of (kind.large_list name item is_nullable) =
-    rw (kind_at-levels_of item, flag_number-one is_nullable)
+    rw (kind_at-levels_of item, truth_number-one is_nullable)
 kind_at-levels_of (kind.dictionary k values is_ordered) =
-    rw (kind_at-levels_of values, key_at-key_number k, flag_number-one is_ordered)
+    rw (kind_at-levels_of values, key_at-key_number k, truth_number-one is_ordered)
 kind_at-levels_of (kind.decimal precision scale) = refl
 
 -- the code of types, for models whose value holds one

@@ -1,5 +1,5 @@
--- Units, types of keys and truth values as numbers, by which the prover stores them.
-use Rattle.std.specs.Prelude.{◌≡◌, ℕ, ◌==◌, Bool, true, false, cond, refl}
+-- Units and types of keys as numbers, by which the prover stores them.
+use Rattle.std.specs.Prelude.{◌≡◌, ℕ, ◌==◌, cond, refl}
 use Rattle.col_types.specs.declared.datatypes.TimeUnit.{TimeUnit}
 use Rattle.col_types.specs.declared.datatypes.TimeUnit.TheVariants as unit
 use Rattle.col_types.specs.declared.datatypes.IntervalUnit.{IntervalUnit}
@@ -78,13 +78,3 @@ key_at-key_number key.UInt8 = refl
 key_at-key_number key.UInt16 = refl
 key_at-key_number key.UInt32 = refl
 key_at-key_number key.UInt64 = refl
-
--- true as 1, false as 0
-abbrev pub flag_number : Bool → ℕ
-flag_number true = 1
-flag_number false = 0
-
--- only true is 1
-pub flag_number-one : (b : Bool) → (flag_number b == 1) ≡ b
-flag_number-one true = refl
-flag_number-one false = refl

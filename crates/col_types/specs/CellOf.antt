@@ -1,10 +1,10 @@
 -- Which cells a type has.
-use Rattle.std.specs.Prelude.{ℕ, ◌+◌, ℤ, Bool, true, false, ◌&&◌, ◌==◌, nat_lt, IsTrue, List, []}
+use Rattle.std.specs.Prelude.{ℕ, ℤ, Bool, true, false, ◌&&◌, ◌==◌, nat_lt, IsTrue, List, []}
 use Rattle.std.specs.Prelude.{◌∷◌, length, Option, Some, None}
 use Rattle.std.specs.List.{list_all}
 use Rattle.std.specs.Str.{is_utf8}
 use Rattle.col_model.specs.Cell.{Cell, Elements, null, whole, truth, parts, octets, list}
-use Rattle.col_model.specs.Cell.{no_elements, element}
+use Rattle.col_model.specs.Cell.{no_elements, element, element_count}
 use Rattle.col_model.specs.Whole.{WholeType, is_fitting}
 use Rattle.col_types.specs.declared.datatypes.physical_type.PhysicalType.{PhysicalType}
 use Rattle.col_types.specs.declared.datatypes.physical_type.PhysicalType.TheVariants as physical
@@ -68,11 +68,6 @@ element_kind (kind.list name item is_nullable) = Some item
 element_kind (kind.fixed_size_list name item is_nullable size) = Some item
 element_kind (kind.large_list name item is_nullable) = Some item
 element_kind _ = None
-
--- how many elements there are
-abbrev pub element_count : Elements → ℕ
-element_count no_elements = 0
-element_count (element c es) = 1 + element_count es
 
 -- a list of fixed size has so many elements, and any other any number
 abbrev pub has_size : DataKind → ℕ → Bool

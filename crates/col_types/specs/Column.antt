@@ -3,7 +3,7 @@ use Rattle.std.specs.Prelude.{ℕ, Bool, ◌==◌, if◌then◌else◌, List, []
 use Rattle.std.specs.Prelude.{slice_index_or, Result, Ok, Err}
 use Rattle.std.specs.List.{list_all}
 use Rattle.col_model.specs.Cell.{Cell, null, Cause}
-use Rattle.col_model.specs.WholeStep.{each_row}
+use Rattle.col_model.specs.WholeStep.{each_cell, each_row}
 use Rattle.col_types.specs.DataKind.{DataKind}
 use Rattle.col_types.specs.declared.error.Error.{Error}
 use Rattle.col_types.specs.declared.error.Error.TheVariants.{InvalidArgumentError}
@@ -54,3 +54,7 @@ kernel_answer step left right =
 abbrev pub scalar_answer : (Cell → Cell → Result Cell Cause) → Column → Cell → Result Column Error
 scalar_answer step left cell =
     column_answer left.data_type (each_row step left.cells (replicate (row_count left) cell))
+
+-- what a kernel answers for one column: its step at each row; the answer has the column's type
+abbrev pub unary_answer : (Cell → Result Cell Cause) → Column → Result Column Error
+unary_answer step c = column_answer c.data_type (each_cell step c.cells)
