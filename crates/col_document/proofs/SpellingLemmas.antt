@@ -1,8 +1,9 @@
 -- Trees and the items that they are written as.
-use Rattle.std.proofs.Common.{◌≡◌, ◌≤◌, true, cond, List, [], ◌∷◌, ◌++◌, Some, None, refl}
+use Rattle.std.proofs.Common.{◌≡◌, ◌≤◌, Bool, true, false, cond, List, [], ◌∷◌, ◌++◌, refl}
+use Rattle.std.proofs.Common.{Some, None, option_map}
 use Rattle.std.proofs.Common.{sym, ap, ◌∙◌, subst, arith, append_assoc, append-nil}
 use Rattle.std.specs.Prelude.{nat_le, ⊤}
-use Rattle.std.proofs.lemmas.Option.{cond_some, none-some, same_Some}
+use Rattle.std.proofs.lemmas.Option.{none-some, same_Some}
 use Rattle.std.proofs.lemmas.Bool.Decides.{nat_tests}
 use Rattle.col_eval.specs.Tree.{Tree, column, literal, step, level_count}
 use Rattle.col_eval.specs.Typing.{max_levels}
@@ -37,7 +38,8 @@ with_pieces-spelling (step op left right) rest trees h =
     )
     (with_pieces-spelling left _ trees (omega arith)
     ∙ with_pieces-spelling right _ (left ∷ trees) (omega arith)
-    ∙ ap (λ b. cond b (Some (step op left right ∷ trees)) None >>= with_pieces rest) within)
+    ∙ ap (λ b. option_map (λ t. t ∷ trees) (cond b (Some (step op left right)) None)
+    >>= with_pieces rest) within)
 
 -- the spelling of a tree leaves it alone
 pub tree-of_spelling : (t : Tree) → level_count t ≤ max_levels
@@ -64,14 +66,21 @@ record IsNext (pieces : List Piece) (trees after : List Tree) : Type 0 where
   spelled_on : spelled trees ++ pieces ≡ spelled after
   bounded_on : AreBounded trees → AreBounded after
 
+-- a tree in front of others, where a test holds
+bounded-some : (test : Bool) (t : Tree) (below after : List Tree)
+    → option_map (λ u. u ∷ below) (cond test (Some t) None) ≡ Some after
+    → (test ≡ true) × (t ∷ below ≡ after)
+bounded-some true t below after e = (refl, cc)
+bounded-some false t below after e = absurd (none-some after e)
+
 -- after a step
 next-step : (op : Op) (trees after : List Tree) → with_step op trees ≡ Some after
     → IsNext (named op ∷ []) trees after
 next-step op [] after e = absurd (none-some after e)
 next-step op (right ∷ []) after e = absurd (none-some after e)
 next-step op (right ∷ left ∷ below) after e =
-    let p = cond_some (nat_le (level_count (step op left right)) max_levels)
-    (step op left right ∷ below) after e in
+    let p = bounded-some (nat_le (level_count (step op left right)) max_levels)
+    (step op left right) below after e in
     subst (λ a. IsNext (named op ∷ []) (right ∷ left ∷ below) a) p.1 (record {
       spelled_on = simp append_assoc;
       bounded_on = λ b. (grind (arith, nat_tests), b.1.1);

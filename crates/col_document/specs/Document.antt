@@ -121,13 +121,17 @@ piece_read (json.string text) = word_read text
 piece_read (json.array items) = None
 piece_read (json.object ms) = literal_read (json.object ms)
 
--- a step on the two trees that stand last, the last one on its right; no tree passes 256 levels
+-- a step on two trees, where it has no more levels than a tree may have
+abbrev pub bounded_step : Op → Tree → Tree → Option Tree
+bounded_step op left right =
+    if nat_le (level_count (step op left right)) max_levels then Some (step op left right) else None
+
+-- a step on the two trees that stand last, the last one on its right
 abbrev pub with_step : Op → List Tree → Option (List Tree)
 with_step op [] = None
 with_step op (right ∷ []) = None
 with_step op (right ∷ left ∷ below) =
-    if nat_le (level_count (step op left right)) max_levels then Some
-    (step op left right ∷ below) else None
+    option_map (λ t. t ∷ below) (bounded_step op left right)
 
 -- the trees after one more item, the last one first
 abbrev pub with_piece : Piece → List Tree → Option (List Tree)

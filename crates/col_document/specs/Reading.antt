@@ -1,10 +1,9 @@
 -- What a reading answers but for want of memory, and what the code's pieces stand for.
-use Rattle.std.specs.Prelude.{◌≡◌, nat_le, if◌then◌else◌, ◌&&◌, ◌^◌, nat_lt, length, List, map}
+use Rattle.std.specs.Prelude.{◌≡◌, if◌then◌else◌, ◌&&◌, ◌^◌, nat_lt, length, List, map}
 use Rattle.std.specs.Prelude.{reverse, Option, Some, None, Result, Ok, Err, ⊤}
 use Rattle.col_types.specs.Column.{Column, is_table}
 use Rattle.col_array.specs.Any.{scalar_cell, scalar_type}
-use Rattle.col_eval.specs.Tree.{Tree, column, literal, step, level_count, tree_of}
-use Rattle.col_eval.specs.Typing.{max_levels}
+use Rattle.col_eval.specs.Tree.{Tree, column, literal, tree_of}
 use Rattle.col_eval.specs.declared.expr.Expr.{Expr}
 use Rattle.col_eval.specs.declared.expr.Op.{Op}
 use Rattle.col_document.specs.declared.document.ReadError.{ReadError}
@@ -29,11 +28,6 @@ abbrev pub piece_view : code.Piece → Piece
 piece_view (code_piece.Column position) = leaf (column position)
 piece_view (code_piece.Literal scalar) = leaf (literal (scalar_type scalar) (scalar_cell scalar))
 piece_view (code_piece.Step op) = named op
-
--- a step on two trees, where it has no more levels than a tree may have
-abbrev pub bounded_step : Op → Tree → Tree → Option Tree
-bounded_step op left right =
-    if nat_le (level_count (step op left right)) max_levels then Some (step op left right) else None
 
 -- the trees of some expressions, the last one first
 abbrev pub trees_of : List Expr → List Tree

@@ -59,8 +59,8 @@ pub fn read_int64(value: &Value) -> Option<Option<i64>>
 {
     match value {
         Value::Null => Some(None),
-        Value::Number(number) => number.as_i64().map(Some),
-        Value::String(text) => read_number(text.as_str()).map(Some),
+        Value::Number(number) => Some(Some(number.as_i64()?)),
+        Value::String(text) => Some(Some(read_number(text.as_str())?)),
         _ => None,
     }
 }

@@ -3,9 +3,9 @@ ghost use Rattle.std.specs.Prelude.{◌≡◌, Some, [], ◌∷◌, map, option_
 ghost use Rattle.serde_json.specs.View.{items_view, view};
 ghost use Rattle.col_eval.specs.Tree.{level_count, tree_of};
 ghost use Rattle.col_document.specs.Document.{only_tree, piece_read, tree_read};
-ghost use Rattle.col_document.specs.Document.{with_piece, with_pieces, with_step};
+ghost use Rattle.col_document.specs.Document.{bounded_step, with_piece, with_pieces, with_step};
 ghost use Rattle.col_document.specs.Json.{each};
-ghost use Rattle.col_document.specs.Reading.{Reads, bounded_step, piece_view, trees_of};
+ghost use Rattle.col_document.specs.Reading.{Reads, piece_view, trees_of};
 
 use crate::document::ReadError;
 use crate::pieces::{Piece, read_piece};
