@@ -6,7 +6,9 @@ use std::alloc::Global;
 
 // Whether an array has so many slots of the type, all null.
 fn is_null_throughout(array: &AnyArray, data_type: &DataType, count: usize) -> bool {
-    array.data_type().equal(data_type) && array.len() == count && array.null_count() == count
+    let has_type = array.data_type().equal(data_type);
+    let counts = [array.len(), array.null_count()];
+    has_type && counts == [count, count]
 }
 
 // Whether a copy of an array is equal to it.
@@ -62,7 +64,8 @@ fn types_without_arrays_are_refused(rt: HostRuntime) {
 
 // Whether an array is equal to two nulls of a type.
 fn are_nulls(alloc: Global, array: &AnyArray, data_type: &DataType) -> Result<bool, Error> {
-    let nulls = AnyArray::new_null(alloc, data_type.try_clone(alloc)?, 2)?;
+    let data_type = data_type.try_clone(alloc)?;
+    let nulls = AnyArray::new_null(alloc, data_type, 2)?;
     Ok(array.equal(&nulls))
 }
 

@@ -175,12 +175,11 @@ fn a_cut_of_a_cut_has_the_slots_from_its_row_on(rt: HostRuntime) -> Result<(), E
 
 // Whether an array is equal to one of these values beneath a mask.
 fn is_equal(alloc: Global, array: &Numbers, values: &[i64], mask: &str) -> Result<bool, Error> {
-    let validity = mask_of(alloc, mask)?;
-    let other = PrimitiveArray::try_new(
-        DataType::Int64,
-        buffer_of(alloc, values)?,
-        Some(validity),
-    )?;
+    let values = buffer_of(alloc, values)?;
+    let other = match mask_of(alloc, mask) {
+        Ok(mask) => PrimitiveArray::try_new(DataType::Int64, values, Some(mask))?,
+        Err(error) => return Err(error),
+    };
     Ok(array.equal(&other))
 }
 

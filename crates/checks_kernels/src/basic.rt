@@ -16,7 +16,36 @@ fn answers(
     answer: Result<Numbers, Error>,
     wanted: &[Option<i64>],
 ) -> Result<bool, Error> {
-    Ok(answer?.equal(&array_of(alloc, wanted)?))
+    let answer = answer?;
+    Ok(answer.equal(&array_of(alloc, wanted)?))
+}
+
+// Whether each call on two arrays answers these slots.
+fn are_sums(
+    alloc: Global,
+    lhs: &Numbers,
+    rhs: &Numbers,
+    wanted: &[Option<i64>],
+) -> Result<[bool; 2], Error> {
+    let is_plain = answers(alloc, add(alloc, lhs, rhs), wanted)?;
+    Ok([
+        is_plain,
+        answers(alloc, checked_add(alloc, lhs, rhs), wanted)?,
+    ])
+}
+
+// Whether each call on an array and a number answers these slots.
+fn are_scalar_sums(
+    alloc: Global,
+    lhs: &Numbers,
+    rhs: i64,
+    wanted: &[Option<i64>],
+) -> Result<[bool; 2], Error> {
+    let is_plain = answers(alloc, add_scalar(alloc, lhs, &rhs), wanted)?;
+    Ok([
+        is_plain,
+        answers(alloc, checked_add_scalar(alloc, lhs, &rhs), wanted)?,
+    ])
 }
 
 #[test]
@@ -24,19 +53,11 @@ fn each_call_of_col_basic_answers_with_ample_memory(rt: HostRuntime) -> Result<(
     let alloc = rt.alloc();
     let lhs = array_of(alloc, &[Some(1), None, Some(i64::MAX), None])?;
     let rhs = array_of(alloc, &[Some(4), Some(5), None, None])?;
-    let sums = [Some(5), None, None, None];
-    assert!(rt; answers(alloc, add(alloc, &lhs, &rhs), &sums)?, "add");
-    assert!(rt;
-        answers(alloc, checked_add(alloc, &lhs, &rhs), &sums)?,
-        "checked_add"
-    );
-    let sums = [Some(0), None, Some(9223372036854775806), None];
-    assert!(rt;
-        answers(alloc, add_scalar(alloc, &lhs, &-1), &sums)?,
-        "add_scalar"
-    );
-    let answer = checked_add_scalar(alloc, &lhs, &-1);
-    assert!(rt; answers(alloc, answer, &sums)?, "checked_add_scalar");
+    let sums = are_sums(alloc, &lhs, &rhs, &[Some(5), None, None, None])?;
+    assert_eq!(rt; sums, [true; 2], "plain and checked of two arrays");
+    let wanted = [Some(0), None, Some(9223372036854775806), None];
+    let sums = are_scalar_sums(alloc, &lhs, -1, &wanted)?;
+    assert_eq!(rt; sums, [true; 2], "plain and checked of an array and -1");
     Ok(())
 }
 
