@@ -34,8 +34,8 @@ impl Model for Bitmap {
 }
 
 impl Bitmap {
-    /// The `length` bits of the bytes from bit `offset` on, the least bit of a byte first. They stay
-    /// in their buffer.
+    /// The `length` bits of the bytes from bit `offset` on, the least bit of a byte first. They
+    /// stay in their buffer.
     ///
     /// Refused: `OutOfSpec` where the bytes have fewer bits.
     pub fn try_new(bytes: Buffer<u8>, offset: usize, length: usize) -> Result<Bitmap, Error>
