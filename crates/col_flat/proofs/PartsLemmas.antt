@@ -100,6 +100,7 @@ take-masked_slots (suc n) (ns ∷ values) (b ∷ flags) =
     ap (λ (rest : List (Option (List ℤ))). slot_beneath b ns ∷ rest)
     (take-masked_slots n values flags)
 
+-- without some of the front
 drop-masked_slots : (n : ℕ) (values : List (List ℤ)) (flags : List Bool)
     → masked_slots (drop n values) (drop n flags) ≡ drop n (masked_slots values flags)
 drop-masked_slots zero values flags = refl
@@ -152,6 +153,7 @@ abbrev unset_flags : List Bool → ℕ
 unset_flags [] = 0
 unset_flags (b ∷ flags) = cond (not b) (1 + unset_flags flags) (unset_flags flags)
 
+-- a false flag is a null slot
 unset_flags-null_count : (values : List (List ℤ)) (flags : List Bool) → length flags ≡ length values
     → unset_flags flags ≡ null_count_of (map slot_cell (masked_slots values flags))
 unset_flags-null_count [] [] h = refl

@@ -8,7 +8,7 @@ use Rattle.col_types.specs.Column.{row_count}
 use Rattle.col_flat.specs.Parts.{HasFlags, HaveOneLength, IsMaskOf, PrimitiveParts, column_of}
 use Rattle.col_flat.specs.Parts.{flags_of_both, masked_slots, null_count_of, slot_cell, slots_of}
 use Rattle.col_flat.specs.Parts.{zipped_slots}
-use Rattle.col_flat.proofs.PartsLemmas.{length-masked_slots}
+use Rattle.col_flat.proofs.PartsLemmas.{row_count-values}
 
 -- without a mask all slots are valid
 all_valid : (values : List (List ℤ))
@@ -64,6 +64,7 @@ both-left (true ∷ left) (b ∷ right) e l =
     ap (λ (rest : List Bool). b ∷ rest) (both-left left right (omega arith) l)
 both-left (false ∷ left) (b ∷ right) e l = cc
 
+-- and so the other way round
 both-right : (left right : List Bool) → length left ≡ length right
     → IsTrue (list_all (λ flag. flag) right) → left ≡ both left right
 both-right [] [] e r = refl
@@ -83,15 +84,11 @@ HasFlags-of_both None (Some mask) xs ys e l r = r ∙ both-left xs ys e l
 HasFlags-of_both (Some mask) None xs ys e l r = l ∙ both-right xs ys e r
 HasFlags-of_both (Some mask) (Some other) xs ys e l r = rw (l, r) refl
 
--- as many rows as values
-rows_of : (a : PrimitiveParts) → row_count (column_of a) ≡ length a.values
-rows_of a =
-    length-map (slots_of a) slot_cell ∙ length-masked_slots a.values (unwrap_or a.validity [])
-
 -- the mask of an array tells which of its slots are valid
 pub HasFlags-array : (a : PrimitiveParts) (mask : Option (List Bool)) → mask ≡ a.validity
     → IsMaskOf a.validity (row_count (column_of a)) → HasFlags mask (map is_some (slots_of a))
-HasFlags-array a mask is fits = rw is (HasFlags-slots a.values a.validity (rw (rows_of a) at fits))
+HasFlags-array a mask is fits =
+    rw is (HasFlags-slots a.values a.validity (rw (row_count-values a) at fits))
 
 -- slots of which none is counted as null are all valid
 pub all_valid-uncounted : (slots : List (Option (List ℤ))) → null_count_of (map slot_cell slots) ≡ 0
