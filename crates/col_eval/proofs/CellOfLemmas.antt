@@ -1,13 +1,11 @@
 -- Where the columns of a table hold cells of their types, so does what a tree gives.
-use Rattle.std.proofs.Common.{◌≡◌, ℕ, zero, suc, ◌+◌, ℤ, ◌+ℤ◌, ◌⊎◌, inl, inr, Bool, true, false}
+use Rattle.std.proofs.Common.{◌≡◌, ℕ, zero, suc, ◌+◌, inl, inr, Bool, true, false}
 use Rattle.std.proofs.Common.{cond, nat_lt, List, [], ◌∷◌, map, slice_get, slice_index_or}
 use Rattle.std.proofs.Common.{Option, None, Some, Result, Ok, Err, IsTrue, ok_or, refl, sym, ◌∙◌}
 use Rattle.std.specs.List.{list_all, range_with_len}
 use Rattle.std.proofs.lemmas.Simd.{map-map}
 use Rattle.std.proofs.lemmas.Bool.{and_parts}
-use Rattle.col_model.specs.Cell.{Cell, null, whole, Cause}
-use Rattle.col_model.specs.Whole.{WholeType, is_fitting}
-use Rattle.col_model.specs.WholeStep.{formed, whole_step}
+use Rattle.col_model.specs.Cell.{Cell, null, Cause}
 use Rattle.col_types.specs.CellOf.{HoldsItsCells, is_typed_column, is_cell_of}
 use Rattle.col_types.specs.Column.{Column, row_at, table_row_count, types_of}
 use Rattle.col_types.specs.DataKind.{DataKind}
@@ -15,37 +13,16 @@ use Rattle.col_types.specs.DataKind as kind
 use Rattle.col_types.specs.declared.error.Error.{Error}
 use Rattle.col_types.specs.declared.error.Error.TheVariants.{InvalidArgumentError}
 use Rattle.col_types.specs.declared.error.Reason.TheVariants.{Depth, Position}
+use Rattle.col_basic.proofs.WrappedLemmas.{typed_step}
 use Rattle.col_eval.specs.declared.expr.Op.{Op}
-use Rattle.col_eval.specs.declared.expr.Op.TheVariants.{Add, CheckedAdd}
 use Rattle.col_eval.specs.Entries.{entry_of, form_of, operation_of}
 use Rattle.col_eval.specs.Tree.{Tree, column, literal, step, level_count, step_count}
 use Rattle.col_eval.specs.Typing.{max_levels, right_type, step_type, type_of, typing_of}
 use Rattle.col_eval.specs.Meaning.{RowAnswer, cell, refused_at, at_step, outcome_of}
-use Rattle.col_eval.specs.Meaning.{row_meaning, rows_of, step_of}
-use Rattle.col_eval.specs.Operand.{rows_meaning}
+use Rattle.col_eval.specs.Meaning.{row_meaning, rows_meaning, rows_of, step_of}
 use Rattle.col_eval.proofs.GatherLemmas.{row_step}
 use Rattle.col_eval.proofs.OperandLemmas.{typed_parts}
 use Rattle.col_eval.proofs.RefusalLemmas.{IsGatheredFrom-gathered}
-
--- a null, or a whole number that fits
-abbrev IsNullOrFits : WholeType → Cell → Type 0
-IsNullOrFits t c = (c ≡ null) ⊎ ((n : ℤ) × (c ≡ whole n) × (is_fitting t n ≡ true))
-
--- the cell of an exact number
-formed-fits : (op : Op) (t : WholeType) (b : Bool) (n : ℤ) (c : Cell) → is_fitting t n ≡ b
-    → formed (form_of op) t b n ≡ Ok c → IsNullOrFits t c
-formed-fits op t true n c e h = inr (n, cc, e)
-formed-fits Add t false n c e h = absurd cc
-formed-fits CheckedAdd t false n c e h = inl cc
-
--- the cell of a step on whole numbers
-whole_step-fits : (op : Op) (t : WholeType) (a b c : Cell)
-    → whole_step (operation_of op) (form_of op) t a b ≡ Ok c → IsNullOrFits t c
-whole_step-fits Add t (whole x) (whole y) c h =
-    formed-fits Add t (is_fitting t (x +ℤ y)) (x +ℤ y) c refl h
-whole_step-fits CheckedAdd t (whole x) (whole y) c h =
-    formed-fits CheckedAdd t (is_fitting t (x +ℤ y)) (x +ℤ y) c refl h
-whole_step-fits op t _ _ c h = inl cc
 
 -- a step with an entry takes and gives whole numbers of 64 bits
 entry_of-int64 : (op : Op) (s t u : DataKind) → entry_of op s t ≡ Ok u
@@ -59,9 +36,9 @@ entry_cell : (op : Op) (s t u : DataKind) (a b c : Cell) → entry_of op s t ≡
 entry_cell op s t u a b c h g =
     let parts = entry_of-int64 op s t u h in
     let cells = rw parts.0 at g in
-    elim (whole_step-fits op _ a b c cells) [
+    elim (typed_step (operation_of op) (form_of op) _ a b c cells) [
       | inl is_null ↦ rw is_null refl
-      | inr fits ↦ rw (parts.2, fits.1) fits.2
+      | inr fits ↦ rw (parts.2, fits.1.0) fits.1.1
     ]
 
 -- the cell of a step with a type

@@ -1,5 +1,5 @@
 pub mod GatherLemmas
-pub mod HeldLemmas
+pub mod CellOfLemmas
 pub mod OperandLemmas
 pub mod RefusalLemmas
 pub mod RowLemmas

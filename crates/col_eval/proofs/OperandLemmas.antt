@@ -24,7 +24,8 @@ use Rattle.col_eval.specs.Tree.{Tree, column, literal, step, step_count}
 use Rattle.col_eval.specs.Typing.{right_type, type_of}
 use Rattle.col_eval.specs.Meaning.{cell, RowsAnswer, all_cells, refusal, row_meaning, rows_of}
 use Rattle.col_eval.specs.Meaning.{step_of, typed_rows, typed_step}
-use Rattle.col_eval.specs.Operand.{operand_outcome, rows_meaning}
+use Rattle.col_eval.specs.Meaning.{rows_meaning}
+use Rattle.col_eval.specs.Operand.{operand_outcome}
 use Rattle.col_eval.proofs.GatherLemmas.{at_rows, gathered-cells, gathered-row_step, rows_step}
 use Rattle.col_eval.proofs.RefusalLemmas.{IsGatheredFrom-gathered}
 use Rattle.col_eval.proofs.TreeLemmas.{IsBelow-row_meaning, IsOk-left, IsOk-right}

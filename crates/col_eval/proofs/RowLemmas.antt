@@ -9,7 +9,7 @@ use Rattle.col_types.specs.Column.{Column, row_at, table_row_count, types_of}
 use Rattle.col_eval.specs.Tree.{Tree}
 use Rattle.col_eval.specs.Typing.{typing_of}
 use Rattle.col_eval.specs.Meaning.{RowAnswer, cell, row_meaning, rows_of, outcome_of}
-use Rattle.col_eval.specs.Operand.{rows_meaning}
+use Rattle.col_eval.specs.Meaning.{rows_meaning}
 use Rattle.col_eval.proofs.OperandLemmas.{typed_parts}
 use Rattle.col_eval.proofs.RefusalLemmas.{IsGatheredFrom-gathered}
 

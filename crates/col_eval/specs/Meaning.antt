@@ -97,8 +97,10 @@ abbrev pub typed_rows : Result DataKind Error → RowsAnswer → Result Column E
 typed_rows (Err e) rows = Err e
 typed_rows (Ok t) rows = rows_column t rows
 
+-- what all rows of a table give together
+abbrev pub rows_meaning : Tree → List Column → RowsAnswer
+rows_meaning tree table = gathered (map (row_meaning tree (types_of table)) (rows_of table))
+
 -- what a tree gives for a table
 abbrev pub outcome_of : Tree → List Column → Result Column Error
-outcome_of tree table =
-    typed_rows (typing_of tree (types_of table))
-    (gathered (map (row_meaning tree (types_of table)) (rows_of table)))
+outcome_of tree table = typed_rows (typing_of tree (types_of table)) (rows_meaning tree table)

@@ -1,5 +1,5 @@
 -- What an operand of a step gives: a column that the table lends, or a new one.
-use Rattle.std.specs.Prelude.{List, map, Result}
+use Rattle.std.specs.Prelude.{List, Result}
 use Rattle.either.specs.declared.Either.{Either}
 use Rattle.either.specs.declared.Either.TheVariants.{Left, Right}
 use denote.Ref.{Bor}
@@ -9,16 +9,12 @@ use Rattle.col_array.specs.Any.{any_column}
 use Rattle.col_array.specs.declared.any.AnyArray.{AnyArray}
 use Rattle.col_eval.specs.Tree.{Tree}
 use Rattle.col_eval.specs.Typing.{type_of}
-use Rattle.col_eval.specs.Meaning.{RowsAnswer, gathered, row_meaning, rows_of, typed_rows}
+use Rattle.col_eval.specs.Meaning.{rows_meaning, typed_rows}
 
 -- the column of an operand, lent or new
 abbrev pub operand_column : Either (Bor AnyArray) AnyArray → Column
 operand_column (Left column) = any_column column.now
 operand_column (Right array) = any_column array
-
--- what all rows of a table give together
-abbrev pub rows_meaning : Tree → List Column → RowsAnswer
-rows_meaning tree table = gathered (map (row_meaning tree (types_of table)) (rows_of table))
 
 -- what a tree of any number of levels gives for a table
 abbrev pub operand_outcome : Tree → List Column → Result Column Error
