@@ -74,7 +74,8 @@ column_read-typed d c e =
     let t = bind_some _ (type_read d) c e in
     let items = bind_some _ (get (codes "values") d >>= as_array) c t.2 in
     let cells = bind_some _ (each (cell_read t.0) items.0) c items.2 in
-    let all = each-all (cell_read t.0) (is_cell_of t.0) (cell_read-cell t.0) items.0 cells.0 cells.1 in
+    let all =
+    each-all (cell_read t.0) (is_cell_of t.0) (cell_read-cell t.0) items.0 cells.0 cells.1 in
     rw (← same_Some _ c cells.2) all
 
 -- the table of a document that is read
@@ -86,7 +87,8 @@ document_read-typed d v e =
     let columns = bind_some _ (each column_read column_items.0) v tree_items.2 in
     let trees = bind_some _ (each tree_read tree_items.0) v columns.2 in
     let made = cond_some _ _ v trees.2 in
-    rw (← made.1) (each-all column_read is_typed_column column_read-typed column_items.0 columns.0 columns.1)
+    rw (← made.1)
+    (each-all column_read is_typed_column column_read-typed column_items.0 columns.0 columns.1)
 
 -- the table of a document of some bytes
 pub document_of-typed : (bytes : List ℕ) (v : DocumentView) → document_of bytes ≡ Some v

@@ -1,4 +1,4 @@
-pub mod HeldLemmas
+pub mod CellOfLemmas
 pub mod LeafLemmas
 pub mod ListLemmas
 pub mod NumberTextLemmas

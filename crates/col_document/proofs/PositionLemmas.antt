@@ -45,7 +45,8 @@ position-from_name (c ∷ digits) i e =
     let found = cond_some _ (digits_value 10 digits) i e in
     let tests = and_parts (c == 99 && is_shortest digits) _ found.0 in
     let small : digits_value 10 digits < 2 ^ 32 = (Decides-ltb _ (2 ^ 32)).0 tests.1 in
-    let first : c ≡ 99 = (Decides-eqb c 99).0 (and_parts (c == 99) (is_shortest digits) tests.0).0 in
+    let first : c ≡ 99 =
+    (Decides-eqb c 99).0 (and_parts (c == 99) (is_shortest digits) tests.0).0 in
     let rest = decimal-shortest digits (and_parts (c == 99) (is_shortest digits) tests.0).1 small in
     (cc, omega arith)
 
