@@ -16,6 +16,7 @@ take_suc-next [] i x h = cc
 take_suc-next (y ∷ xs) zero x h = let e : y ≡ x = cc in rw e refl
 take_suc-next {X} (y ∷ xs) (suc i) x h = ap (λ (rest : List X). y ∷ rest) (take_suc-next xs i x h)
 
+-- the same, by the next place
 take-next : {X : Type 0} (xs : List X) (i : ℕ) (x : X) → slice_get xs i ≡ Some x
     → take (i + 1) xs ≡ take i xs ++ x ∷ []
 take-next xs i x h = rw add-one (take_suc-next xs i x h)
