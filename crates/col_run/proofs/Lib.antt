@@ -1,2 +1,2 @@
-pub mod FaultsLemmas
+pub mod StreamsLemmas
 pub mod RunLemmas

@@ -4,7 +4,7 @@ use Rattle.std.proofs.lemmas.Slice.Eq.{bytes_eq-Decides}
 use Rattle.std.proofs.Common.{Bool, IsTrue, ◌↔◌, ◌≡◌, ◌≤◌, ◌<◌, ℕ, List, [], ◌∷◌, length, get_or}
 use Rattle.std.proofs.Common.{map, ap, String, Global, string_bytes, Option, None, Some, refl}
 use Rattle.std.proofs.Common.{sym, ◌∙◌, append-nil, arith}
-use Rattle.col_run.specs.Faults.{TakesAll, TakesAtMost}
+use Rattle.col_run.specs.Streams.{TakesAll, TakesAtMost}
 use Rattle.col_run.specs.Run.{IsPageOf, IsStopped, ReadsAll, TakesWithin, max_bytes}
 use Rattle.col_page.specs.PageView.{PageView}
 use Rattle.col_run.specs.declared.status.Status.{Status}

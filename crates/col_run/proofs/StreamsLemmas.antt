@@ -4,7 +4,7 @@ use Rattle.std.proofs.Common.{None, sym, ◌∙◌, ap, subst, arith, append_ass
 use Rattle.std.proofs.Common.{take-append-drop}
 use Rattle.std.proofs.lemmas.List.{take_at, take-take, drop-drop, length-take-le}
 use Rattle.std.proofs.Math.Seq.{take-add}
-use Rattle.col_run.specs.Faults.{TakesFront, AddsBytes}
+use Rattle.col_run.specs.Streams.{TakesFront, AddsBytes}
 
 -- a cut of a list that was laid at the front of another is, with what follows it, the list
 pub moved_front : (xs ys moved : List ℕ) (p k : ℕ) → moved ≡ take k (drop p xs) → length moved ≡ k

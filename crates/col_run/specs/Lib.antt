@@ -1,6 +1,6 @@
 pub use Rattle.col_document.specs.Document
 pub use Rattle.col_page.specs.Page
-pub mod Faults
+pub mod Streams
 pub mod SinkState
 pub mod Status
 pub mod Run

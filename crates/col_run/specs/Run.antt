@@ -3,7 +3,7 @@ use Rattle.std.specs.Prelude.{◌≡◌, ℕ, ◌+◌, ◌≤◌, Bool, true, fa
 use Rattle.std.specs.Prelude.{codes, string_bytes, String, Option, Some, None, ⊤}
 use Rattle.std.specs.declared.alloc.Global.{Global}
 use Rattle.col_document.specs.Document.{DocumentView, document_of}
-use Rattle.col_run.specs.Faults.{AddsBytes, AddsFront, FaultsRose, TakesAtMost, TakesCount}
+use Rattle.col_run.specs.Streams.{AddsBytes, AddsFront, FaultsRose, TakesAtMost, TakesCount}
 use Rattle.col_page.specs.Page.{has_error_line, page_text}
 use Rattle.col_page.specs.PageView.{PageView}
 use Rattle.col_run.specs.declared.status.Status.{Status}

@@ -3,7 +3,7 @@ use Rattle.std.specs.Prelude.{ℕ, ◌+◌, ◌-◌, ◌==◌, min, max, Bool, n
 use Rattle.std.specs.Prelude.{◌++◌, length, take, Result, Ok, Err, if◌then◌else◌}
 use Rattle.std.specs.List.{list_any}
 use Rattle.col_run.specs.declared.source.Failed.{Failed}
-use Rattle.col_run.specs.Faults.{last_count}
+use Rattle.col_run.specs.Streams.{last_count}
 
 -- how a sink in memory stands
 pub record SinkState : Type 0 where

@@ -1,6 +1,6 @@
 //! What the program does, from its words to its status.
 ghost use Rattle.std.specs.Prelude.{◌≡◌, ◌↔◌, ◌≤◌, IfOk, IfErr, IsTrue};
-ghost use Rattle.col_run.specs.Faults.{FaultsRose};
+ghost use Rattle.col_run.specs.Streams.{FaultsRose};
 ghost use Rattle.col_run.specs.Run.{IsEval, IsPageOf, IsStopped, MalformedWhere, TakesWithin};
 ghost use Rattle.col_run.specs.Run.{WritesPage};
 ghost use Rattle.col_run.specs.declared.status.Status.TheVariants.{Malformed, Memory, ReadFault};

@@ -2,7 +2,7 @@
 ghost use Rattle.std.specs.Prelude.{◌≡◌, ℕ, ◌+◌, ◌<◌, ◌≤◌, List, length, take, Option, Some};
 ghost use Rattle.std.specs.Prelude.{None, IfOk, OnErr, vec_len, vec_capacity};
 ghost use Rattle.col_types.specs.Answer.{FailsByMemory};
-ghost use Rattle.col_run.specs.Faults.{FaultsRose, AddsBytes};
+ghost use Rattle.col_run.specs.Streams.{FaultsRose, AddsBytes};
 ghost use Rattle.col_run.specs.SinkState.{SinkState, first_state, is_failing, write_answer};
 ghost use Rattle.col_run.specs.SinkState.{state_after};
 

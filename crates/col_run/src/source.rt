@@ -1,7 +1,7 @@
 //! Where bytes come from.
 ghost use Rattle.std.specs.Prelude.{◌≡◌, ℕ, ◌<◌, ◌≤◌, List, length, take, drop, Option, Some};
 ghost use Rattle.std.specs.Prelude.{None, IfOk, OnErr, vec_len};
-ghost use Rattle.col_run.specs.Faults.{FaultsRose, TakesFront, IsSpent};
+ghost use Rattle.col_run.specs.Streams.{FaultsRose, TakesFront, IsSpent};
 
 use std::io::Read;
 use std::marker::Model;

@@ -1,7 +1,7 @@
 //! Reading a whole source, and writing a whole page.
 ghost use Rattle.std.specs.Prelude.{◌≡◌, ◌+◌, ◌≤◌, length, IfOk, OnOk, OnErr, IsErrOf};
-ghost use Rattle.col_run.specs.Faults.{FaultsRose, TakesAll, TakesCount, TakesAtMost, AddsBytes};
-ghost use Rattle.col_run.specs.Faults.{AddsFront};
+ghost use Rattle.col_run.specs.Streams.{FaultsRose, TakesAll, TakesCount, TakesAtMost, AddsBytes};
+ghost use Rattle.col_run.specs.Streams.{AddsFront};
 ghost use Rattle.col_run.specs.Run.{max_bytes};
 ghost use Rattle.col_run.specs.declared.transfer.Stop.TheVariants.{Memory};
 

@@ -1,6 +1,6 @@
 use Rattle.std.proofs.Common.{arith, rules}
 use Rattle.std.proofs.lemmas.Result.{err_from_is_err_and}
-use Rattle.col_run.proofs.FaultsLemmas.{takes_more, length_with_front}
+use Rattle.col_run.proofs.StreamsLemmas.{takes_more, length_with_front}
 use Rattle.col_run.proofs.transfer.read_all.Goals as goal
 
 pub loop-bytes-preserved : goal.loop-bytes-preserved

@@ -1,5 +1,5 @@
 use Rattle.std.proofs.Common.{◌≡◌, ◌-◌, ◌≤◌, vec_len}
-use Rattle.col_run.specs.Faults.{TakesFront}
+use Rattle.col_run.specs.Streams.{TakesFront}
 use Rattle.col_run.proofs.transfer.read_all.Given as goal
 
 abbrev pub invariant-loop-bytes : goal.invariant-loop-bytes

@@ -1,5 +1,5 @@
 use Rattle.std.proofs.Common.{◌≤◌, ◌-◌, length, arith}
-use Rattle.col_run.proofs.FaultsLemmas.{adds_next}
+use Rattle.col_run.proofs.StreamsLemmas.{adds_next}
 use Rattle.col_run.proofs.transfer.write_all.Goals as goal
 
 pub loop-written-preserved : goal.loop-written-preserved

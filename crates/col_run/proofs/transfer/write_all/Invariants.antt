@@ -1,5 +1,5 @@
 use Rattle.std.proofs.Common.{◌≤◌, ◌-◌, length, take}
-use Rattle.col_run.specs.Faults.{AddsBytes}
+use Rattle.col_run.specs.Streams.{AddsBytes}
 use Rattle.col_run.proofs.transfer.write_all.Given as goal
 
 abbrev pub invariant-loop-written : goal.invariant-loop-written

@@ -1,6 +1,6 @@
 use Rattle.std.proofs.Common.{◌≡◌, List, ℕ, length, take, drop, sym, ◌∙◌, ap, arith}
 use Rattle.std.proofs.lemmas.List.{length-take-le}
-use Rattle.col_run.proofs.FaultsLemmas.{moved_front}
+use Rattle.col_run.proofs.StreamsLemmas.{moved_front}
 use Rattle.col_run.proofs.source.SteadySourceSource.read.Goals as goal
 
 pub returns-clause-bytes : goal.returns-clause-bytes
