@@ -26,7 +26,7 @@ impl Tally {
     /// A line that is no case counts as one that differs.
     pub fn check_line(&mut self, alloc: Global, line: &str) -> Result<Option<String>, AllocError>
         ensures told { IfOk result (λ told. IsSome told → 0 < self.new.differ) }
-        ensures kept { self.old.differ ≤ self.new.differ }
+        ensures counts { self.old.differ ≤ self.new.differ }
     {
         self.lines = self.lines.saturating_add(1);
         if line.is_empty() || line.starts_with('#') {
