@@ -9,7 +9,7 @@ use Rattle.col_flat.proofs.PartsLemmas.{IsMaskOf-flags, length-masked_slots, mas
 use Rattle.col_arity.specs.Rows.{AnswersWith, IsMapped, IsMappedWithFlags, MapsSlots}
 
 -- as many rows are made as there are slots
-length-made : {X S : Type 0} (allows : X → S → Type 0) (none : S) (slots : List (Option X))
+pub length-made : {X S : Type 0} (allows : X → S → Type 0) (none : S) (slots : List (Option X))
     (made : List S) → MapsSlots allows none slots made → length slots ≡ length made
 length-made allows none [] [] h = refl
 length-made allows none [] (s ∷ made) h = absurd h
@@ -72,6 +72,18 @@ length_zip [] (y ∷ ys) e = absurd (omega arith)
 length_zip (x ∷ xs) [] e = absurd (omega arith)
 length_zip (x ∷ xs) (y ∷ ys) e = ap suc (length_zip xs ys (omega arith))
 
+-- an answer as a slot
+pub AnswersWith-some : {X R N S : Type 0} {numbers : X → N} {post : X → R → Type 0} {seen : R → S}
+    {n : N} {s : S} → AnswersWith numbers post seen n s
+    → AnswersWith numbers post (λ r. Some (seen r)) n (Some s)
+AnswersWith-some h = record {
+  value = h.value;
+  answer = h.answer;
+  is_value = h.is_value;
+  answers = h.answers;
+  is_answer = ap Some h.is_answer;
+}
+
 -- an answer whose values are made row by row, beneath a mask that tells which rows are valid
 pub IsMapped-beneath : {X R N : Type 0} (numbers : X → N) (post : X → R → Type 0)
     (seen : R → List ℤ) (none : List ℤ) (t : DataKind) (slots : List (Option N))
@@ -85,14 +97,7 @@ IsMapped-beneath numbers post seen none t slots values mask array flags made is 
   rows = rw (masked_slots-flags values mask (map is_some slots) flags)
       (maps_beneath (AnswersWith numbers post (λ r. Some (seen r)))
       (AnswersWith numbers post seen) none
-      (λ x ns h. record {
-        value = h.value;
-        answer = h.answer;
-        is_value = h.is_value;
-        answers = h.answers;
-        is_answer = ap Some h.is_answer;
-      })
-      slots values made);
+      (λ x ns h. AnswersWith-some h) slots values made);
 })
 
 -- a mask that tells which rows are valid has a flag for each value that is made

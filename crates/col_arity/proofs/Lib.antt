@@ -1,2 +1,3 @@
 pub mod BeneathLemmas
 pub mod RowLemmas
+mod StoredLemmas

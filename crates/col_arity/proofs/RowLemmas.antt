@@ -1,15 +1,13 @@
 -- Facts on what a closure gives for the rows of arrays.
-use Rattle.std.proofs.Common.{◌≡◌, ℕ, zero, suc, ◌<◌, ℤ, Bool, true, false, List, [], ◌∷◌, ◌++◌}
-use Rattle.std.proofs.Common.{length, map, get_or, Option, Some, None, Result, Ok, Err, refl, sym}
+use Rattle.std.proofs.Common.{◌≡◌, zero, suc, Bool, List, [], ◌∷◌, ◌++◌}
+use Rattle.std.proofs.Common.{length, map, Option, Some, None, Result, Ok, Err, refl, sym}
 use Rattle.std.proofs.Common.{ap, ◌∙◌, arith, inl, inr}
 use Rattle.std.specs.List.{zip}
 use Rattle.std.proofs.lemmas.List.{append-nil, append_assoc, length-map, length_push, map_push}
-use Rattle.std.proofs.lemmas.Option.{some_pair_parts}
 use Rattle.col_types.specs.Answer.{UnlessMemory}
 use Rattle.col_types.specs.declared.error.Error.{Error}
 use Rattle.col_types.specs.declared.error.Error.TheVariants.{Memory}
-use Rattle.col_flat.specs.Parts.{masked_slots, zipped_slots}
-use Rattle.col_arity.specs.Rows.{AnswersWith, IsCallableAtStored, IsCallableAtValid, IsFirstRefusal}
+use Rattle.col_arity.specs.Rows.{AnswersWith, IsCallableAtValid, IsFirstRefusal}
 use Rattle.col_arity.specs.Rows.{MapsSlots}
 
 -- what follows what was made for the front of the slots is what is made for those that are left
@@ -126,64 +124,3 @@ pub length-more : {X Y : Type 0} (xs : List X) (ys : List Y) (x : X) (y : Y) {xs
     → length ys' ≡ length xs'
 length-more xs ys x y e p q =
     rw (p, q) (omega (arith, length_push xs x, length_push ys y))
-
--- a valid slot's value is stored at its row
-at_masked : (values : List (List ℤ)) (flags : List Bool) (k : ℕ) (ns : List ℤ)
-    → k < length (masked_slots values flags)
-    → get_or (masked_slots values flags) k (Some ns) ≡ Some ns
-    → (k < length values) × (get_or values k ns ≡ ns)
-at_masked [] flags k ns within is = absurd (omega arith)
-at_masked (v ∷ values) [] zero ns within is = (omega arith, cc)
-at_masked (v ∷ values) [] (suc k) ns within is =
-    let rest = at_masked values [] k ns (omega arith) is in (omega arith, rest.1)
-at_masked (v ∷ values) (true ∷ flags) zero ns within is = (omega arith, cc)
-at_masked (v ∷ values) (false ∷ flags) zero ns within is = cc
-at_masked (v ∷ values) (b ∷ flags) (suc k) ns within is =
-    let rest = at_masked values flags k ns (omega arith) is in (omega arith, rest.1)
-
--- both values of a row of two lists of slots
-at_zipped : {X Y : Type 0} (xs : List (Option X)) (ys : List (Option Y)) (k : ℕ) (x : X) (y : Y)
-    → k < length (zipped_slots xs ys) → get_or (zipped_slots xs ys) k (Some (x, y)) ≡ Some (x, y)
-    → (k < length xs) × (get_or xs k (Some x) ≡ Some x) × (k < length ys) ×
-    (get_or ys k (Some y) ≡ Some y)
-at_zipped [] ys k x y within is = absurd (omega arith)
-at_zipped (a ∷ xs) [] k x y within is = absurd (omega arith)
-at_zipped (None ∷ xs) (b ∷ ys) zero x y within is = cc
-at_zipped (Some a ∷ xs) (None ∷ ys) zero x y within is = cc
-at_zipped (Some a ∷ xs) (Some b ∷ ys) zero x y within is =
-    let parts = some_pair_parts a x b y is in
-    (omega arith, ap Some parts.0, omega arith, ap Some parts.1)
-at_zipped (a ∷ xs) (b ∷ ys) (suc k) x y within is =
-    let rest = at_zipped xs ys k x y (omega arith) is in (omega arith, rest.1, omega arith, rest.3)
-
--- both elements of a row of two lists
-at_zip : {X Y : Type 0} (xs : List X) (ys : List Y) (k : ℕ) (x : X) (y : Y) → k < length xs
-    → get_or xs k x ≡ x → k < length ys → get_or ys k y ≡ y
-    → (k < length (zip xs ys)) × (get_or (zip xs ys) k (x, y) ≡ (x, y))
-at_zip [] ys k x y p e q f = absurd (omega arith)
-at_zip (a ∷ xs) [] k x y p e q f = absurd (omega arith)
-at_zip (a ∷ xs) (b ∷ ys) zero x y p e q f = (omega arith, cc)
-at_zip (a ∷ xs) (b ∷ ys) (suc k) x y p e q f =
-    let rest = at_zip xs ys k x y (omega arith) e (omega arith) f in (omega arith, rest.1)
-
--- a closure that may be called for all that is stored may be called for the values of the slots
-pub callable_stored : {X : Type 0} (numbers : X → List ℤ) (pre : X → Type 0)
-    (values : List (List ℤ)) (flags : List Bool) → IsCallableAtStored numbers pre values
-    → IsCallableAtValid numbers pre (masked_slots values flags)
-callable_stored numbers pre values flags callable = λ x within.
-    let stored = at_masked values flags within.0 (numbers x) within.1 within.2 in
-    callable x (within.0, stored.0, stored.1)
-
-pub callable_stored_pairs : {X : Type 0} (numbers : X → List ℤ × List ℤ) (pre : X → Type 0)
-    (left : List (List ℤ)) (left_flags : List Bool) (right : List (List ℤ))
-    (right_flags : List Bool) → IsCallableAtStored numbers pre (zip left right)
-    → IsCallableAtValid numbers pre
-    (zipped_slots (masked_slots left left_flags) (masked_slots right right_flags))
-callable_stored_pairs numbers pre left left_flags right right_flags callable = λ x within.
-    let k = within.0 in
-    let row = at_zipped (masked_slots left left_flags) (masked_slots right right_flags) k
-    (numbers x).0 (numbers x).1 within.1 within.2 in
-    let lhs = at_masked left left_flags k (numbers x).0 row.0 row.1 in
-    let rhs = at_masked right right_flags k (numbers x).1 row.2 row.3 in
-    let stored = at_zip left right k (numbers x).0 (numbers x).1 lhs.0 lhs.1 rhs.0 rhs.1 in
-    callable x (k, stored.0, stored.1)

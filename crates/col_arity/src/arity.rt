@@ -1,14 +1,15 @@
 //! Kernels that call a closure on the values of one array or of two.
 ghost use Rattle.std.specs.Prelude.{◌≡◌, ◌≢◌, ◌↔◌, IsOk, ◌⊎◌, IfErr, IfOk, Ok, Err, Some};
-ghost use Rattle.std.specs.Prelude.{option_map};
+ghost use Rattle.std.specs.Prelude.{None, is_some, map, option_map};
+ghost use Rattle.std.specs.Option.{option_copied};
 ghost use Rattle.col_types.specs.Answer.{ButForMemory, FailsByMemory, RefusedWhere, UnlessMemory};
 ghost use Rattle.col_types.specs.declared.error.Reason.TheVariants.{Lengths};
 ghost use Rattle.col_types.specs.Column.{row_count};
 ghost use Rattle.col_types.specs.DataKind.{kind_of};
 ghost use Rattle.col_types.specs.DataType.{IsMadeOf};
-ghost use Rattle.col_flat.specs.Parts.{column_of, pair_numbers, slot_pairs, slots_of};
+ghost use Rattle.col_flat.specs.Parts.{HasFlags, column_of, pair_numbers, slot_pairs, slots_of};
 ghost use Rattle.col_arity.specs.Rows.{AnswersWith, IsCallableAtValid, IsFirstRefusal, IsLengths};
-ghost use Rattle.col_arity.specs.Rows.{IsMapped, IsMappedWithFlags};
+ghost use Rattle.col_arity.specs.Rows.{IsMapped, IsMappedWithFlags, MapsSlots, zero_numbers};
 
 mod checked;
 mod fallible;
@@ -16,6 +17,7 @@ mod flagged;
 mod mapped;
 
 use crate::masks::{beneath, mask_of_both, mask_of_one};
+use crate::stored::{copied, try_put_pairs};
 use col_buf::Bitmap;
 use col_flat::{PrimitiveArray, pairs};
 use col_types::{DataType, Error, NativeType, Reason};
@@ -236,17 +238,69 @@ pub fn try_binary<T: NativeType, D: NativeType, F: Fn(T, D) -> Result<T, Error>>
 {
     check_lengths(lhs, rhs)?;
     let validity = mask_of_both(alloc, lhs, rhs)?;
-    let rows = pairs(lhs, rhs, validity.as_ref());
+    let values = pair_answers(alloc, lhs, rhs, validity.as_ref(), op)?;
+    beneath(alloc, data_type, values, validity)
+}
+
+// The closure's answer for each two values, and zero where one of the two slots is null or both
+// are; or its first refusal. The mask tells which rows are valid in both.
+fn pair_answers<T: NativeType, D: NativeType, F: Fn(T, D) -> Result<T, Error>>(
+    alloc: Global,
+    lhs: &PrimitiveArray<T>,
+    rhs: &PrimitiveArray<D>,
+    mask: Option<&Bitmap>,
+    op: F,
+) -> Result<Vec<T>, Error>
+    requires one_length { row_count (column_of lhs.now) ≡ row_count (column_of rhs.now) }
+    requires combined { HasFlags (option_copied mask)
+        (map is_some (slot_pairs lhs.now rhs.now)) }
+    requires callable { IsCallableAtValid (pair_numbers T.numbers D.numbers) (λ p. F.pre op p.0 p.1)
+        (slot_pairs lhs.now rhs.now) }
+    ensures answer { IfOk result (λ values. MapsSlots
+        (AnswersWith (pair_numbers T.numbers D.numbers) (λ p r. F.post op p.0 p.1 (Ok r))
+        (λ r. T.numbers r)) (zero_numbers T.field_types) (slot_pairs lhs.now rhs.now)
+        (map T.numbers values.items)) }
+    ensures refused { IfErr result (λ e. UnlessMemory e (IsFirstRefusal
+        (pair_numbers T.numbers D.numbers) (λ p r. F.post op p.0 p.1 r)
+        (slot_pairs lhs.now rhs.now) e)) }
+{
+    if mask.is_none() {
+        return stored_answers(alloc, lhs, rhs, op);
+    }
+    let rows = pairs(lhs, rhs, mask);
     let each = |pair: (T, D)| -> Result<T, Error>
         requires { F.pre op pair.0 pair.1 }
         ensures { F.post op pair.0 pair.1 result }
     { op(pair.0, pair.1) };
-    let values = fallible::rows(alloc, lhs.len(), rows, each)?;
-    beneath(alloc, data_type, values, validity)
+    fallible::rows(alloc, lhs.len(), rows, each)
+}
+
+// The closure's answer for each two values of arrays without nulls, or its first refusal.
+fn stored_answers<T: NativeType, D: NativeType, F: Fn(T, D) -> Result<T, Error>>(
+    alloc: Global,
+    lhs: &PrimitiveArray<T>,
+    rhs: &PrimitiveArray<D>,
+    op: F,
+) -> Result<Vec<T>, Error>
+    requires one_length { row_count (column_of lhs.now) ≡ row_count (column_of rhs.now) }
+    requires all_valid { HasFlags None (map is_some (slot_pairs lhs.now rhs.now)) }
+    requires callable { IsCallableAtValid (pair_numbers T.numbers D.numbers) (λ p. F.pre op p.0 p.1)
+        (slot_pairs lhs.now rhs.now) }
+    ensures answer { IfOk result (λ values. MapsSlots
+        (AnswersWith (pair_numbers T.numbers D.numbers) (λ p r. F.post op p.0 p.1 (Ok r))
+        (λ r. T.numbers r)) (zero_numbers T.field_types) (slot_pairs lhs.now rhs.now)
+        (map T.numbers values.items)) }
+    ensures refused { IfErr result (λ e. UnlessMemory e (IsFirstRefusal
+        (pair_numbers T.numbers D.numbers) (λ p r. F.post op p.0 p.1 r)
+        (slot_pairs lhs.now rhs.now) e)) }
+{
+    let mut values = copied(alloc, lhs)?;
+    try_put_pairs(values.as_mut_slice(), rhs.values().as_slice(), op)?;
+    Ok(values)
 }
 
 // Refuses two arrays that differ in length.
-fn check_lengths<T: NativeType, D: NativeType>(
+pub(crate) fn check_lengths<T: NativeType, D: NativeType>(
     lhs: &PrimitiveArray<T>,
     rhs: &PrimitiveArray<D>,
 ) -> Result<(), Error>

@@ -6,7 +6,9 @@ ghost use Rattle.col_types.specs.Column.{row_count};
 ghost use Rattle.col_flat.specs.Parts.{column_of, pair_numbers, slot_pairs, slots_of};
 ghost use Rattle.col_arity.specs.Rows.{AnswersWith, IsCallableAtStored, IsMapped};
 
-use crate::arity;
+use crate::arity::check_lengths;
+use crate::masks::{beneath, mask_of_both, mask_of_one};
+use crate::stored::{copied, put_each, put_pairs};
 use col_flat::PrimitiveArray;
 use col_types::{Error, NativeType};
 use std::alloc::Global;
@@ -27,8 +29,11 @@ pub fn unary<I: NativeType, F: Fn(I) -> I>(
     ensures refused { FailsByMemory result }
     ensures kept { OnErr result (array.new ≡ array.old) }
 {
+    let validity = mask_of_one(array)?;
     let data_type = array.data_type().try_clone(alloc)?;
-    *array = arity::unary(alloc, array, op, data_type)?;
+    let mut values = copied(alloc, array)?;
+    put_each(values.as_mut_slice(), op);
+    *array = beneath(alloc, data_type, values, validity)?;
     Ok(())
 }
 
@@ -54,7 +59,11 @@ pub fn binary<T: NativeType, D: NativeType, F: Fn(T, D) -> T>(
     ensures refused { IfErr result (λ e. UnlessMemory e (e ≡ Error.InvalidArgumentError Lengths)) }
     ensures kept { OnErr result (lhs.new ≡ lhs.old) }
 {
+    check_lengths(lhs, rhs)?;
+    let validity = mask_of_both(alloc, lhs, rhs)?;
     let data_type = lhs.data_type().try_clone(alloc)?;
-    *lhs = arity::binary(alloc, lhs, rhs, data_type, op)?;
+    let mut values = copied(alloc, lhs)?;
+    put_pairs(values.as_mut_slice(), rhs.values().as_slice(), op);
+    *lhs = beneath(alloc, data_type, values, validity)?;
     Ok(())
 }

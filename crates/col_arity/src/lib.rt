@@ -5,6 +5,7 @@ mod arity;
 pub mod arity_assign;
 mod masks;
 mod rows;
+mod stored;
 
 pub use arity::{
     binary, binary_checked, binary_with_bitmap, try_binary, try_unary, unary, unary_checked,

@@ -13,7 +13,7 @@ beneath-requires-clause-one_length g c =
     (λ p r. goal.F-post g c.args.op p.0 p.1 (Ok r)) (λ r. g.T.NativeType.numbers r))
     (zero_numbers g.T.NativeType.field_types)
     (slot_pairs c.args.lhs.now c.args.rhs.now) g.T.NativeType.numbers c.in_ok-values.values.items _
-    c.in_ok-validity.ensures.value (rw c.pairs-rows.ensures at c.in_ok-values.ensures.answer)
+    c.in_ok-validity.ensures.value c.in_ok-values.ensures.answer
 
 pub returns-clause-answer : goal.returns-clause-answer
 returns-clause-answer g c =
@@ -24,5 +24,5 @@ returns-clause-answer g c =
     (slot_pairs c.args.lhs.now c.args.rhs.now)
     (map g.T.NativeType.numbers c.in_ok-values.values.items) _ array
     c.in_ok-validity.ensures.value
-    (rw c.pairs-rows.ensures at c.in_ok-values.ensures.answer) is)
+    c.in_ok-values.ensures.answer is)
     c.beneath.ensures.value
