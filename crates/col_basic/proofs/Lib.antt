@@ -1,4 +1,7 @@
+pub mod BitLemmas
+pub mod FormLemmas
 pub mod KernelLemmas
+pub mod LawLemmas
 pub mod RowLemmas
 pub mod StepLemmas
-pub mod WrappedLemmas
+pub mod UnaryLemmas

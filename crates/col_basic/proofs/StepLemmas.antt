@@ -1,26 +1,38 @@
 -- What a step on two numbers gives, by where the divisor is 0 and where the exact number fits.
 use Rattle.std.proofs.Common.{◌≡◌, ℤ, Bool, true, false, Option, Some, None, option_map}
-use Rattle.std.proofs.Common.{Result, Ok, Err, refl, sym, ◌∙◌}
-use Rattle.std.specs.Prelude.{ok_or}
+use Rattle.std.proofs.Common.{Ok, refl, sym, ◌∙◌}
+use Rattle.std.specs.Prelude.{is_some, not}
 use Rattle.col_model.specs.Cell.{Cell, null, whole}
-use Rattle.col_model.specs.Whole.{WholeType}
-use Rattle.col_model.specs.WholeStep.{Operation, Form, plain, checked, by_zero_answer}
-use Rattle.col_model.specs.WholeStep.{checked_result, exact_result, is_by_zero, is_fitting_result}
-use Rattle.col_model.specs.WholeStep.{overflow_answer, whole_step}
+use Rattle.col_model.specs.Whole.{WholeType, is_fitting}
+use Rattle.col_model.specs.WholeStep.{Operation, Form, by_zero_answer, checked_result}
+use Rattle.col_model.specs.WholeStep.{exact_result, is_by_zero, is_fitting_result, is_flagged}
+use Rattle.col_model.specs.WholeStep.{is_overflowing, overflow_answer, whole_step}
 use Rattle.col_types.specs.Answer.{as_errors}
-use Rattle.col_types.specs.declared.error.Error.{Error}
-use Rattle.col_types.specs.declared.error.Error.TheVariants.{DivideByZero, Overflow}
-use Rattle.col_basic.specs.Answered.{checked_cell, plain_cell}
+use Rattle.col_basic.proofs.RowLemmas.{IsNullBeside, IsStrict}
 
 -- a null beside anything gives null
-pub null_left : (operation : Operation) (form : Form) (t : WholeType) (c : Cell)
-    → whole_step operation form t null c ≡ Ok null
-null_left operation form t c = refl
+pub whole_strict : (operation : Operation) (form : Form) (t : WholeType)
+    → IsStrict (whole_step operation form t)
+whole_strict operation form t = record {
+  left = λ c. refl;
+  right = null_right operation form t;
+} where
+  null_right : (operation : Operation) (form : Form) (t : WholeType) (c : Cell)
+      → whole_step operation form t c null ≡ Ok null
+  null_right operation form t (whole a) = refl
+  null_right operation form t _ = refl
 
-pub null_right : (operation : Operation) (form : Form) (t : WholeType) (c : Cell)
-    → whole_step operation form t c null ≡ Ok null
-null_right operation form t (whole a) = refl
-null_right operation form t _ = refl
+-- beside a null nothing is flagged
+pub flag_strict : (operation : Operation) (t : WholeType)
+    → IsNullBeside false (is_flagged operation t)
+flag_strict operation t = record {
+  left = λ c. refl;
+  right = null_right operation t;
+} where
+  null_right : (operation : Operation) (t : WholeType) (c : Cell)
+      → is_flagged operation t c null ≡ false
+  null_right operation t (whole a) = refl
+  null_right operation t _ = refl
 
 -- by 0, a step gives what its form gives there
 pub step-by_zero : (operation : Operation) (form : Form) (t : WholeType) (a b : ℤ)
@@ -41,67 +53,30 @@ pub step-unfit : (operation : Operation) (form : Form) (t : WholeType) (a b : �
     ≡ overflow_answer form t (exact_result operation a b)
 step-unfit operation form t a b z f = rw (z, f) refl
 
--- the checked form, by the two tests
-checked_of : {T : Type 0} (value : T → ℤ) (operation : Operation) (t : WholeType) (a b : ℤ)
-    (zero fits : Bool) (o : Option T)
-    → is_by_zero operation b ≡ zero → is_fitting_result operation t a b ≡ fits
-    → option_map value o ≡ checked_result operation t a b
-    → checked_cell value o ≡ as_errors (whole_step operation checked t (whole a) (whole b))
-checked_of value operation t a b true fits None z f h = rw z refl
-checked_of value operation t a b true fits (Some x) z f h = let none = rw z at h in cc
-checked_of value operation t a b false true None z f h = let some = rw (z, f) at h in cc
-checked_of value operation t a b false true (Some x) z f h =
-    let some = rw (z, f) at h in
-    let same : value x ≡ exact_result operation a b = cc in
-    rw (z, f, same) refl
-checked_of value operation t a b false false None z f h = rw (z, f) refl
-checked_of value operation t a b false false (Some x) z f h = let none = rw (z, f) at h in cc
+-- a form that answers every number by another one, which is the number itself where that fits
+pub total_step : (operation : Operation) (form : Form) (t : WholeType) (a b m : ℤ)
+    → is_by_zero operation b ≡ false
+    → is_fitting_result operation t a b ≡ is_fitting t (exact_result operation a b)
+    → (is_fitting t (exact_result operation a b) ≡ true → m ≡ exact_result operation a b)
+    → overflow_answer form t (exact_result operation a b) ≡ Ok (whole m)
+    → Ok (whole m) ≡ as_errors (whole_step operation form t (whole a) (whole b))
+total_step operation form t a b m z same fitted past = by_test _ refl where
+  by_test : (fits : Bool) → is_fitting_result operation t a b ≡ fits
+      → Ok (whole m) ≡ as_errors (whole_step operation form t (whole a) (whole b))
+  by_test true f = rw (step-fitting operation form t a b z f, fitted (sym same ∙ f)) refl
+  by_test false f = rw (step-unfit operation form t a b z f, past) refl
 
--- the checked form is what the checked result gives
-pub checked_step : {T : Type 0} (value : T → ℤ) (operation : Operation) (t : WholeType) (a b : T)
+-- where there is a result for any two numbers, it does not fit exactly where none is checked
+pub flag_step : {T : Type 0} (value : T → ℤ) (operation : Operation) (t : WholeType) (a b : ℤ)
     (o : Option T)
-    → option_map value o ≡ checked_result operation t (value a) (value b)
-    → checked_cell value o
-    ≡ as_errors (whole_step operation checked t (whole (value a)) (whole (value b)))
-checked_step value operation t a b o h =
-    checked_of value operation t (value a) (value b) _ _ o refl refl h
-
--- the plain form, by the two tests
-plain_of : {T : Type 0} (value : T → ℤ) (operation : Operation) (t : WholeType) (a b : ℤ)
-    (zero fits : Bool) (o : Option T) (r : Result T Error)
-    → is_by_zero operation b ≡ zero → is_fitting_result operation t a b ≡ fits
+    → is_by_zero operation b ≡ false
     → option_map value o ≡ checked_result operation t a b
-    → (zero ≡ true → r ≡ Err DivideByZero) → (zero ≡ false → r ≡ ok_or o Overflow)
-    → plain_cell value r ≡ as_errors (whole_step operation plain t (whole a) (whole b))
-plain_of value operation t a b true fits o r z f h divided is = rw (z, divided refl) refl
-plain_of value operation t a b false true None r z f h divided is =
-    let some = rw (z, f) at h in cc
-plain_of value operation t a b false true (Some x) r z f h divided is =
-    let some = rw (z, f) at h in
-    let same : value x ≡ exact_result operation a b = cc in
-    rw (z, f, is refl, same) refl
-plain_of value operation t a b false false None r z f h divided is = rw (z, f, is refl) refl
-plain_of value operation t a b false false (Some x) r z f h divided is =
-    let none = rw (z, f) at h in cc
-
--- the plain form is what the checked result gives, or an overflow; a divisor of 0 comes first
-pub plain_step : {T : Type 0} (value : T → ℤ) (operation : Operation) (t : WholeType) (a b : T)
-    (o : Option T) (r : Result T Error)
-    → option_map value o ≡ checked_result operation t (value a) (value b)
-    → (is_by_zero operation (value b) ≡ true → r ≡ Err DivideByZero)
-    → (is_by_zero operation (value b) ≡ false → r ≡ ok_or o Overflow)
-    → plain_cell value r
-    ≡ as_errors (whole_step operation plain t (whole (value a)) (whole (value b)))
-plain_step value operation t a b o r h divided is =
-    plain_of value operation t (value a) (value b) _ _ o r refl refl h divided is
-
--- the same for an operation that has a result for any two numbers
-pub plain_result : {T : Type 0} (value : T → ℤ) (operation : Operation) (t : WholeType) (a b : T)
-    (o : Option T) (r : Result T Error)
-    → is_by_zero operation (value b) ≡ false
-    → option_map value o ≡ checked_result operation t (value a) (value b)
-    → r ≡ ok_or o Overflow
-    → plain_cell value r
-    ≡ as_errors (whole_step operation plain t (whole (value a)) (whole (value b)))
-plain_result value operation t a b o r some h is =
-    plain_step value operation t a b o r h (λ z. let no = sym some ∙ z in cc) (λ z. is)
+    → not (is_some o) ≡ is_overflowing operation t a b
+flag_step {T} value operation t a b o z h = by_tests _ o refl h where
+  by_tests : (fits : Bool) (o : Option T) → is_fitting_result operation t a b ≡ fits
+      → option_map value o ≡ checked_result operation t a b
+      → not (is_some o) ≡ is_overflowing operation t a b
+  by_tests true None f h = let some = rw (z, f) at h in cc
+  by_tests true (Some x) f h = rw (z, f) refl
+  by_tests false None f h = rw (z, f) refl
+  by_tests false (Some x) f h = let none = rw (z, f) at h in cc

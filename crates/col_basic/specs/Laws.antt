@@ -1,12 +1,14 @@
--- What a step gives, said by the names of its operation and form.
-use Rattle.std.specs.Prelude.{◌≡◌, ℤ, pos, ◌+ℤ◌, ◌*ℤ◌, ◌^◌, int_le, int_lt, false, true}
-use Rattle.std.specs.Prelude.{Ok, Err, ◌↔◌, ◌⊎◌}
-use Rattle.col_model.specs.Cell.{Cell, null, whole, overflow, divide_by_zero}
+-- What a step gives for two cells and over rows, said by the names of its operation and form.
+use Rattle.std.specs.Prelude.{◌≡◌, ◌≢◌, ℕ, ◌<◌, ℤ, pos, ◌+ℤ◌, ◌*ℤ◌, ◌^◌, int_le, int_lt}
+use Rattle.std.specs.Prelude.{int_div, false, true, List, length, slice_get, Option, Some, None}
+use Rattle.std.specs.Prelude.{option_map, Result, Ok, Err, ◌↔◌, ◌⊎◌}
+use Rattle.std.specs.List.{All}
+use Rattle.col_model.specs.Cell.{Cell, null, whole, Cause, overflow, divide_by_zero}
 use Rattle.col_model.specs.Whole.{WholeType, bit_count, is_fitting}
-use Rattle.col_model.specs.WholeStep.{Operation, division}
-use Rattle.col_model.specs.WholeStep.{remainder, Form, plain, checked, wrapping, saturating}
-use Rattle.col_model.specs.WholeStep.{exact_result, is_by_zero, is_fitting_result, is_flagged}
-use Rattle.col_model.specs.WholeStep.{whole_step}
+use Rattle.col_model.specs.WholeStep.{Operation, division, remainder, Form, plain, checked}
+use Rattle.col_model.specs.WholeStep.{wrapping, saturating, exact_result, is_by_zero, is_flagged}
+use Rattle.col_model.specs.WholeStep.{is_fitting_result, whole_step, each_cell, each_row}
+use Rattle.col_basic.specs.Bits.{not_step, xor_step}
 
 -- the two operations that have no result by 0
 abbrev pub Divides : Operation → Type 0
@@ -94,3 +96,105 @@ abbrev pub StepGivesItsType : Type 0
 StepGivesItsType =
     (operation : Operation) (form : Form) (t : WholeType) (x y c : Cell)
     → whole_step operation form t x y ≡ Ok c → IsNullOrFits t c
+
+-- what a step answers at a row of one list: nothing past its end
+abbrev pub answer_at : (Cell → Result Cell Cause) → List Cell → ℕ → Option (Result Cell Cause)
+answer_at step cells row = option_map step (slice_get cells row)
+
+-- what a step answers for two cells, where both are there
+abbrev pub answer_for : (Cell → Cell → Result Cell Cause) → Option Cell → Option Cell
+    → Option (Result Cell Cause)
+answer_for step (Some a) (Some b) = Some (step a b)
+answer_for step _ _ = None
+
+-- what a step answers at a row of two lists: nothing past the end of one
+abbrev pub answer_beside : (Cell → Cell → Result Cell Cause) → List Cell → List Cell → ℕ
+    → Option (Result Cell Cause)
+answer_beside step left right row = answer_for step (slice_get left row) (slice_get right row)
+
+-- a cell for each row, and it is what the row is answered
+pub record HasEachAnswer (answers : ℕ → Option (Result Cell Cause)) (count : ℕ)
+    (cells : List Cell) : Type 0 where
+  pub as_many : length cells ≡ count
+  pub each : (row : ℕ) (c : Cell) → slice_get cells row ≡ Some c → answers row ≡ Some (Ok c)
+
+-- some row is refused for this cause, and each row above it is answered a cell
+pub record RefusesTheLeastRow (answers : ℕ → Option (Result Cell Cause)) (count : ℕ)
+    (cause : Cause) : Type 0 where
+  pub row : ℕ
+  pub is_row : row < count
+  pub refuses : answers row ≡ Some (Err cause)
+  pub above : (other : ℕ) → other < row → (c : Cell) × (answers other ≡ Some (Ok c))
+
+-- what all rows give is the cell of each, or the cause at the least row that is refused
+abbrev pub IsGatheredFrom : (ℕ → Option (Result Cell Cause)) → ℕ → Result (List Cell) Cause
+    → Type 0
+IsGatheredFrom answers count (Ok cells) = HasEachAnswer answers count cells
+IsGatheredFrom answers count (Err cause) = RefusesTheLeastRow answers count cause
+
+-- so it is for a step on two lists of one length, and for a step on one list
+pub record RowsAnswerOrTheLeastRefuses : Type 0 where
+  pub beside : (step : Cell → Cell → Result Cell Cause) (left right : List Cell)
+      → length left ≡ length right
+      → IsGatheredFrom (answer_beside step left right) (length left) (each_row step left right)
+  pub alone : (step : Cell → Result Cell Cause) (cells : List Cell)
+      → IsGatheredFrom (answer_at step cells) (length cells) (each_cell step cells)
+
+-- where the checked form gives a whole number at a row, a form that gives cells gives the same
+abbrev pub CheckedSlotsAreThoseOfOtherForms : Type 0
+CheckedSlotsAreThoseOfOtherForms =
+    (operation : Operation) (form : Form) (t : WholeType) (left right cells others : List Cell)
+    (row : ℕ) (n : ℤ)
+    → each_row (whole_step operation checked t) left right ≡ Ok cells
+    → each_row (whole_step operation form t) left right ≡ Ok others
+    → slice_get cells row ≡ Some (whole n) → slice_get others row ≡ Some (whole n)
+
+-- a sum, a difference or a product of two whole numbers is null in the checked form exactly where
+-- the overflowing form flags
+abbrev pub CheckedIsNullWhereFlagged : Type 0
+CheckedIsNullWhereFlagged =
+    (operation : Operation) (t : WholeType) (a b : ℤ) → (Divides operation → ⊥)
+    → (whole_step operation checked t (whole a) (whole b) ≡ Ok null)
+    ↔ (is_flagged operation t (whole a) (whole b) ≡ true)
+
+-- the quotient times the divisor, and the remainder, are the dividend
+pub record RebuildsTheDividend (t : WholeType) (a b : ℤ) : Type 0 where
+  pub quotient : ℤ
+  pub rest : ℤ
+  pub divided : whole_step division plain t (whole a) (whole b) ≡ Ok (whole quotient)
+  pub remains : whole_step remainder plain t (whole a) (whole b) ≡ Ok (whole rest)
+  pub rebuilt : quotient *ℤ b +ℤ rest ≡ a
+
+-- so it is where the quotient fits
+abbrev pub QuotientAndRemainderRebuildTheDividend : Type 0
+QuotientAndRemainderRebuildTheDividend =
+    (t : WholeType) (a b : ℤ) → is_fitting t a ≡ true → b ≢ pos 0
+    → is_fitting t (int_div a b) ≡ true → RebuildsTheDividend t a b
+
+-- the bits of each number are turned, then turned again, and the cells are those of before
+pub record IsKeptByNotTwice (t : WholeType) (cells : List Cell) : Type 0 where
+  pub once : List Cell
+  pub turned : each_cell (not_step t) cells ≡ Ok once
+  pub turned_back : each_cell (not_step t) once ≡ Ok cells
+
+-- so it is for nulls and numbers of the type
+abbrev pub NotTwiceKeepsSlots : Type 0
+NotTwiceKeepsSlots =
+    (t : WholeType) (cells : List Cell) → All (IsNullOrFits t) cells → IsKeptByNotTwice t cells
+
+-- the left cell beside a whole number, null beside any other cell
+abbrev pub left_beside_number : Cell → Cell → Result Cell Cause
+left_beside_number a (whole b) = Ok a
+left_beside_number a _ = Ok null
+
+-- xor with one list twice gives the left cell at each row where that list has a number, else null
+pub record IsKeptByXorTwice (t : WholeType) (left right : List Cell) : Type 0 where
+  pub once : List Cell
+  pub changed : each_row (xor_step t) left right ≡ Ok once
+  pub changed_back : each_row (xor_step t) once right ≡ each_row left_beside_number left right
+
+-- so it is for nulls and numbers of the type
+abbrev pub XorTwiceKeepsSlots : Type 0
+XorTwiceKeepsSlots =
+    (t : WholeType) (left right : List Cell) → All (IsNullOrFits t) left
+    → IsKeptByXorTwice t left right

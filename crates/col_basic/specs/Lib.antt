@@ -1,3 +1,4 @@
+pub use Rattle.col_model.specs.Bitwise
 pub use Rattle.col_model.specs.Cell
 pub use Rattle.col_model.specs.Whole
 pub use Rattle.col_model.specs.WholeStep
@@ -5,4 +6,8 @@ pub use Rattle.col_types.specs.Answer
 pub use Rattle.col_types.specs.Column
 pub use Rattle.col_flat.specs.Parts
 pub mod Answered
+pub mod Bits
+pub mod Flagged
 pub mod Laws
+pub mod Negative
+pub mod Power

@@ -13,7 +13,7 @@ use Rattle.col_types.specs.DataKind as kind
 use Rattle.col_types.specs.declared.error.Error.{Error}
 use Rattle.col_types.specs.declared.error.Error.TheVariants.{InvalidArgumentError}
 use Rattle.col_types.specs.declared.error.Reason.TheVariants.{Depth, Position}
-use Rattle.col_basic.proofs.WrappedLemmas.{typed_step}
+use Rattle.col_basic.proofs.FormLemmas.{typed_step}
 use Rattle.col_eval.specs.declared.expr.Op.{Op}
 use Rattle.col_eval.specs.Entries.{entry_of, form_of, operation_of}
 use Rattle.col_eval.specs.Tree.{Tree, column, literal, step, level_count, step_count}

@@ -1,13 +1,15 @@
 //! Sums, row by row.
-ghost use Rattle.std.specs.Prelude.{◌≡◌};
 ghost use Rattle.col_model.specs.Cell.{whole};
-ghost use Rattle.col_model.specs.WholeStep.{addition, plain, checked, whole_step};
-ghost use Rattle.col_types.specs.Answer.{Answers, as_errors};
+ghost use Rattle.col_model.specs.WholeStep.{addition, checked, plain, saturating};
+ghost use Rattle.col_model.specs.WholeStep.{whole_step, wrapping};
+ghost use Rattle.col_types.specs.Answer.{Answers};
 ghost use Rattle.col_types.specs.Column.{kernel_answer, scalar_answer};
 ghost use Rattle.col_flat.specs.Parts.{column_of};
-ghost use Rattle.col_basic.specs.Answered.{checked_cell, plain_cell};
+ghost use Rattle.col_basic.specs.Flagged.{flagged_answer, flagged_scalar_answer};
 
-use col_arity::{binary_checked, try_binary, try_unary, unary_checked};
+use crate::kernels;
+use crate::operator::Addition;
+use col_buf::Bitmap;
 use col_flat::PrimitiveArray;
 use col_types::{Error, NativeArithmetics};
 use std::alloc::Global;
@@ -25,8 +27,23 @@ pub fn add<T: NativeArithmetics>(
         (kernel_answer (whole_step addition plain T.whole_type)
         (column_of lhs.now) (column_of rhs.now)) }
 {
-    let data_type = lhs.data_type().try_clone(alloc)?;
-    try_binary(alloc, lhs, rhs, data_type, plain_sum)
+    kernels::plain::<T, Addition>(alloc, lhs, rhs)
+}
+
+/// Adds two arrays row by row. A sum is taken modulo 2^w, w being the width of the type. A row
+/// where either slot is null is null; the type is that of `lhs`.
+///
+/// Refused: `Lengths` exactly where the arrays differ in length.
+pub fn wrapping_add<T: NativeArithmetics>(
+    alloc: Global,
+    lhs: &PrimitiveArray<T>,
+    rhs: &PrimitiveArray<T>,
+) -> Result<PrimitiveArray<T>, Error>
+    ensures answer { Answers column_of result
+        (kernel_answer (whole_step addition wrapping T.whole_type)
+        (column_of lhs.now) (column_of rhs.now)) }
+{
+    kernels::wrapping::<T, Addition>(alloc, lhs, rhs)
 }
 
 /// Adds two arrays row by row. A row where either slot is null, or whose sum does not fit, is null;
@@ -42,8 +59,39 @@ pub fn checked_add<T: NativeArithmetics>(
         (kernel_answer (whole_step addition checked T.whole_type)
         (column_of lhs.now) (column_of rhs.now)) }
 {
-    let data_type = lhs.data_type().try_clone(alloc)?;
-    binary_checked(alloc, lhs, rhs, data_type, checked_sum)
+    kernels::checked::<T, Addition>(alloc, lhs, rhs)
+}
+
+/// Adds two arrays row by row. A sum past an end of the type is that end. A row where either slot
+/// is null is null; the type is that of `lhs`.
+///
+/// Refused: `Lengths` exactly where the arrays differ in length.
+pub fn saturating_add<T: NativeArithmetics>(
+    alloc: Global,
+    lhs: &PrimitiveArray<T>,
+    rhs: &PrimitiveArray<T>,
+) -> Result<PrimitiveArray<T>, Error>
+    ensures answer { Answers column_of result
+        (kernel_answer (whole_step addition saturating T.whole_type)
+        (column_of lhs.now) (column_of rhs.now)) }
+{
+    kernels::saturating::<T, Addition>(alloc, lhs, rhs)
+}
+
+/// Adds two arrays row by row. A sum is taken modulo 2^w, w being the width of the type, and the
+/// flag of its row tells whether it did not fit. A row where either slot is null is null, with a
+/// false flag; the type is that of `lhs`.
+///
+/// Refused: `Lengths` exactly where the arrays differ in length.
+pub fn overflowing_add<T: NativeArithmetics>(
+    alloc: Global,
+    lhs: &PrimitiveArray<T>,
+    rhs: &PrimitiveArray<T>,
+) -> Result<(PrimitiveArray<T>, Bitmap), Error>
+    ensures answer { Answers (λ made. (column_of made.0, made.1)) result
+        (flagged_answer addition T.whole_type (column_of lhs.now) (column_of rhs.now)) }
+{
+    kernels::overflowing::<T, Addition>(alloc, lhs, rhs)
 }
 
 /// Adds a number to each slot. A null slot stays null; the type is that of `lhs`.
@@ -58,13 +106,29 @@ pub fn add_scalar<T: NativeArithmetics>(
         (scalar_answer (whole_step addition plain T.whole_type)
         (column_of lhs.now) (whole (T.value rhs.now))) }
 {
-    let rhs = *rhs;
-    let data_type = lhs.data_type().try_clone(alloc)?;
-    try_unary(alloc, lhs, |a| plain_sum(a, rhs), data_type)
+    kernels::plain_scalar::<T, Addition>(alloc, lhs, rhs)
+}
+
+/// Adds a number to each slot. A sum is taken modulo 2^w, w being the width of the type. A null
+/// slot stays null; the type is that of `lhs`.
+///
+/// No row is refused.
+pub fn wrapping_add_scalar<T: NativeArithmetics>(
+    alloc: Global,
+    lhs: &PrimitiveArray<T>,
+    rhs: &T,
+) -> Result<PrimitiveArray<T>, Error>
+    ensures answer { Answers column_of result
+        (scalar_answer (whole_step addition wrapping T.whole_type)
+        (column_of lhs.now) (whole (T.value rhs.now))) }
+{
+    kernels::wrapping_scalar::<T, Addition>(alloc, lhs, rhs)
 }
 
 /// Adds a number to each slot. A null slot stays null, and a slot whose sum does not fit is null;
-/// the type is that of `lhs`. No row is refused.
+/// the type is that of `lhs`.
+///
+/// No row is refused.
 pub fn checked_add_scalar<T: NativeArithmetics>(
     alloc: Global,
     lhs: &PrimitiveArray<T>,
@@ -74,23 +138,38 @@ pub fn checked_add_scalar<T: NativeArithmetics>(
         (scalar_answer (whole_step addition checked T.whole_type)
         (column_of lhs.now) (whole (T.value rhs.now))) }
 {
-    let rhs = *rhs;
-    let data_type = lhs.data_type().try_clone(alloc)?;
-    unary_checked(alloc, lhs, |a| checked_sum(a, rhs), data_type)
+    kernels::checked_scalar::<T, Addition>(alloc, lhs, rhs)
 }
 
-// The sum of two numbers, refused where it does not fit.
-fn plain_sum<T: NativeArithmetics>(a: T, b: T) -> Result<T, Error>
-    ensures { plain_cell T.value result ≡ as_errors
-        (whole_step addition plain T.whole_type (whole (T.value a)) (whole (T.value b))) }
+/// Adds a number to each slot. A sum past an end of the type is that end. A null slot stays null;
+/// the type is that of `lhs`.
+///
+/// No row is refused.
+pub fn saturating_add_scalar<T: NativeArithmetics>(
+    alloc: Global,
+    lhs: &PrimitiveArray<T>,
+    rhs: &T,
+) -> Result<PrimitiveArray<T>, Error>
+    ensures answer { Answers column_of result
+        (scalar_answer (whole_step addition saturating T.whole_type)
+        (column_of lhs.now) (whole (T.value rhs.now))) }
 {
-    a.add_checked(b).ok_or(Error::Overflow)
+    kernels::saturating_scalar::<T, Addition>(alloc, lhs, rhs)
 }
 
-// The sum of two numbers, none where it does not fit.
-fn checked_sum<T: NativeArithmetics>(a: T, b: T) -> Option<T>
-    ensures { checked_cell T.value result ≡ as_errors
-        (whole_step addition checked T.whole_type (whole (T.value a)) (whole (T.value b))) }
+/// Adds a number to each slot. A sum is taken modulo 2^w, w being the width of the type, and the
+/// flag of its row tells whether it did not fit. A null slot stays null, with a false flag; the
+/// type is that of `lhs`.
+///
+/// No row is refused.
+pub fn overflowing_add_scalar<T: NativeArithmetics>(
+    alloc: Global,
+    lhs: &PrimitiveArray<T>,
+    rhs: &T,
+) -> Result<(PrimitiveArray<T>, Bitmap), Error>
+    ensures answer { Answers (λ made. (column_of made.0, made.1)) result
+        (flagged_scalar_answer addition T.whole_type
+        (column_of lhs.now) (whole (T.value rhs.now))) }
 {
-    a.add_checked(b)
+    kernels::overflowing_scalar::<T, Addition>(alloc, lhs, rhs)
 }

@@ -5,7 +5,7 @@ use Rattle.col_model.specs.WholeStep.{exact_result, is_by_zero}
 use Rattle.col_model.specs.WholeStep.{is_fitting_result}
 use Rattle.col_basic.specs.Laws.{AnswersByZero, AnswersUnfit, Divides}
 use Rattle.col_basic.proofs.StepLemmas.{step-fitting, step-unfit}
-use Rattle.col_basic.proofs.WrappedLemmas.{nearest, wrapped}
+use Rattle.col_basic.proofs.FormLemmas.{nearest, wrapped}
 use Rattle.col_basic.proofs.laws.each_form_answers_by_its_name.Goals as goal
 
 zero_of : (operation : Operation) (t : WholeType) (a : ℤ) → Divides operation
