@@ -4,6 +4,8 @@
 #[cfg(test)]
 mod arity;
 #[cfg(test)]
-mod basic;
-#[cfg(test)]
 mod eval;
+#[cfg(test)]
+mod single;
+#[cfg(test)]
+mod whole;
