@@ -4,6 +4,10 @@
 #[cfg(test)]
 mod arity;
 #[cfg(test)]
+mod bytes;
+#[cfg(test)]
+mod division;
+#[cfg(test)]
 mod eval;
 #[cfg(test)]
 mod single;

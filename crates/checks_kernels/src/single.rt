@@ -1,23 +1,10 @@
 //! Checks of negatives, powers and bits: each call once, with arrow2's own vectors among them.
+use crate::bytes::{Bytes, Slots, answers, bytes_of};
 use col_basic::bitwise::{and, and_scalar, not, or, or_scalar, xor, xor_scalar};
 use col_basic::{checked_negate, checked_powf_scalar, negate, wrapping_negate};
 use col_flat::PrimitiveArray;
 use col_types::{DataType, Error, IntervalUnit, NativeNegate, days_ms, months_days_ns};
 use std::alloc::Global;
-
-type Bytes = PrimitiveArray<i8>;
-
-type Slots<'a> = &'a [Option<i8>];
-
-fn bytes_of(alloc: Global, slots: Slots) -> Result<Bytes, Error> {
-    PrimitiveArray::from_options(alloc, DataType::Int8, slots)
-}
-
-// Whether the call answered these slots.
-fn answers(alloc: Global, answer: Result<Bytes, Error>, wanted: Slots) -> Result<bool, Error> {
-    let answer = answer?;
-    Ok(answer.equal(&bytes_of(alloc, wanted)?))
-}
 
 // The refusal of the plain negatives, and whether the checked and the wrapping ones are these.
 fn negatives(

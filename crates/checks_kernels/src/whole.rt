@@ -1,31 +1,17 @@
-//! Checks of `col_basic`: each call once, and values that no clause names, worked out by hand.
+//! Checks of sums, differences and products: each call once, with arrow2's own vectors among them.
+use crate::bytes::{Bytes, Slots, answers, bytes_of};
 use col_basic::{
-    add, add_scalar, checked_add, checked_add_scalar, checked_div, checked_div_scalar, checked_mul,
-    checked_mul_scalar, checked_rem, checked_rem_scalar, checked_sub, checked_sub_scalar, div,
-    div_scalar, mul, mul_scalar, overflowing_add, overflowing_add_scalar, overflowing_mul,
-    overflowing_mul_scalar, overflowing_sub, overflowing_sub_scalar, rem, rem_scalar,
-    saturating_add, saturating_add_scalar, saturating_mul, saturating_mul_scalar, saturating_sub,
-    saturating_sub_scalar, sub, sub_scalar, wrapping_add, wrapping_add_scalar, wrapping_mul,
-    wrapping_mul_scalar, wrapping_sub, wrapping_sub_scalar,
+    add, add_scalar, checked_add, checked_add_scalar, checked_mul, checked_mul_scalar, checked_sub,
+    checked_sub_scalar, div, div_scalar, mul, mul_scalar, overflowing_add, overflowing_add_scalar,
+    overflowing_mul, overflowing_mul_scalar, overflowing_sub, overflowing_sub_scalar, rem,
+    rem_scalar, saturating_add, saturating_add_scalar, saturating_mul, saturating_mul_scalar,
+    saturating_sub, saturating_sub_scalar, sub, sub_scalar, wrapping_add, wrapping_add_scalar,
+    wrapping_mul, wrapping_mul_scalar, wrapping_sub, wrapping_sub_scalar,
 };
 use col_buf::Bitmap;
 use col_flat::PrimitiveArray;
 use col_types::{DataType, Error, NativeArithmetics, Reason};
 use std::alloc::Global;
-
-type Bytes = PrimitiveArray<i8>;
-
-type Slots<'a> = &'a [Option<i8>];
-
-fn bytes_of(alloc: Global, slots: Slots) -> Result<Bytes, Error> {
-    PrimitiveArray::from_options(alloc, DataType::Int8, slots)
-}
-
-// Whether the call answered these slots.
-fn answers(alloc: Global, answer: Result<Bytes, Error>, wanted: Slots) -> Result<bool, Error> {
-    let answer = answer?;
-    Ok(answer.equal(&bytes_of(alloc, wanted)?))
-}
 
 // Whether each form without refused rows of a sum answers these slots: checked, wrapping,
 // saturating.
@@ -297,102 +283,6 @@ fn the_plain_forms_answer_with_ample_memory(rt: HostRuntime) -> Result<(), Error
         [true; 5],
         "an array and -2"
     );
-    Ok(())
-}
-
-// Whether the checked divisions of two arrays answer these slots: quotient, remainder.
-fn are_divided(
-    alloc: Global,
-    lhs: &Bytes,
-    rhs: &Bytes,
-    wanted: [Slots; 2],
-) -> Result<[bool; 2], Error> {
-    let quotient = answers(alloc, checked_div(alloc, lhs, rhs), wanted[0])?;
-    Ok([
-        quotient,
-        answers(alloc, checked_rem(alloc, lhs, rhs), wanted[1])?,
-    ])
-}
-
-// The same of an array and a number.
-fn are_scalar_divided(
-    alloc: Global,
-    lhs: &Bytes,
-    rhs: i8,
-    wanted: [Slots; 2],
-) -> Result<[bool; 2], Error> {
-    let quotient = answers(alloc, checked_div_scalar(alloc, lhs, &rhs), wanted[0])?;
-    Ok([
-        quotient,
-        answers(alloc, checked_rem_scalar(alloc, lhs, &rhs), wanted[1])?,
-    ])
-}
-
-#[test]
-fn the_checked_divisions_answer_with_ample_memory(rt: HostRuntime) -> Result<(), Error> {
-    let alloc = rt.alloc();
-    let lhs = bytes_of(alloc, &[Some(7), Some(-128), Some(5), None])?;
-    let rhs = bytes_of(alloc, &[Some(-2), Some(-1), Some(0), Some(3)])?;
-    let wanted = [
-        [Some(-3), None, None, None].as_slice(),
-        [Some(1), None, None, None].as_slice(),
-    ];
-    assert_eq!(rt;
-        are_divided(alloc, &lhs, &rhs, wanted)?,
-        [true; 2],
-        "two arrays"
-    );
-    let wanted = [
-        [Some(-7), None, Some(-5), None].as_slice(),
-        [Some(0), None, Some(0), None].as_slice(),
-    ];
-    assert_eq!(rt;
-        are_scalar_divided(alloc, &lhs, -1, wanted)?,
-        [true; 2],
-        "an array and -1"
-    );
-    let wanted = [[None; 4].as_slice(), [None; 4].as_slice()];
-    assert_eq!(rt;
-        are_scalar_divided(alloc, &lhs, 0, wanted)?,
-        [true; 2],
-        "an array and 0"
-    );
-    Ok(())
-}
-
-// The refusals of the plain divisions of two arrays: quotient, remainder.
-fn refusals_of(alloc: Global, lhs: Slots, rhs: Slots) -> Result<[Option<Error>; 2], Error> {
-    let lhs = bytes_of(alloc, lhs)?;
-    let rhs = bytes_of(alloc, rhs)?;
-    Ok([div(alloc, &lhs, &rhs).err(), rem(alloc, &lhs, &rhs).err()])
-}
-
-#[test]
-fn the_least_row_that_refuses_a_division_gives_the_error(rt: HostRuntime) -> Result<(), Error> {
-    let lengths = Error::InvalidArgumentError(Reason::Lengths);
-    let cases = [
-        (
-            [Some(-128), Some(5)],
-            [Some(-1), Some(0)].as_slice(),
-            Some(Error::Overflow),
-        ),
-        (
-            [Some(5), Some(-128)],
-            [Some(0), Some(-1)].as_slice(),
-            Some(Error::DivideByZero),
-        ),
-        (
-            [None, Some(-128)],
-            [Some(0), Some(-1)].as_slice(),
-            Some(Error::Overflow),
-        ),
-        ([None, None], [Some(0), Some(0)].as_slice(), None),
-        ([Some(5), Some(5)], [Some(0)].as_slice(), Some(lengths)),
-    ];
-    for (lhs, rhs, wanted) in cases {
-        let refusals = refusals_of(rt.alloc(), &lhs, rhs)?;
-        assert_eq!(rt; refusals, [wanted; 2], "{lhs:?} by {rhs:?}");
-    }
     Ok(())
 }
 
