@@ -6,6 +6,7 @@ ghost use Rattle.col_types.specs.Column.{kernel_answer, scalar_answer, unary_ans
 ghost use Rattle.col_flat.specs.Parts.{column_of};
 ghost use Rattle.col_basic.specs.Bits.{and_step, not_step, or_step, xor_step};
 
+use crate::bits;
 use col_arity::arity_assign;
 use col_flat::PrimitiveArray;
 use col_types::{Error, NativeWhole};
@@ -23,9 +24,7 @@ pub fn or<T: NativeWhole>(
     ensures answer { Answers column_of result
         (kernel_answer (or_step T.whole_type) (column_of lhs.now) (column_of rhs.now)) }
 {
-    let mut answer = lhs.try_clone(alloc)?;
-    arity_assign::binary(alloc, &mut answer, rhs, either_bits)?;
-    Ok(answer)
+    bits::bitwise::<T, bits::Or>(alloc, lhs, rhs)
 }
 
 /// The bits that are set in one of two slots alone, row by row. A row where either slot is null is
@@ -40,9 +39,7 @@ pub fn xor<T: NativeWhole>(
     ensures answer { Answers column_of result
         (kernel_answer (xor_step T.whole_type) (column_of lhs.now) (column_of rhs.now)) }
 {
-    let mut answer = lhs.try_clone(alloc)?;
-    arity_assign::binary(alloc, &mut answer, rhs, differing_bits)?;
-    Ok(answer)
+    bits::bitwise::<T, bits::Xor>(alloc, lhs, rhs)
 }
 
 /// The bits that are set in both of two slots, row by row. A row where either slot is null is null;
@@ -57,9 +54,7 @@ pub fn and<T: NativeWhole>(
     ensures answer { Answers column_of result
         (kernel_answer (and_step T.whole_type) (column_of lhs.now) (column_of rhs.now)) }
 {
-    let mut answer = lhs.try_clone(alloc)?;
-    arity_assign::binary(alloc, &mut answer, rhs, common_bits)?;
-    Ok(answer)
+    bits::bitwise::<T, bits::And>(alloc, lhs, rhs)
 }
 
 /// The bits that are not set in each slot. A null slot stays null; the type is that of `array`. No
@@ -86,10 +81,7 @@ pub fn or_scalar<T: NativeWhole>(
     ensures answer { Answers column_of result
         (scalar_answer (or_step T.whole_type) (column_of lhs.now) (whole (T.value rhs.now))) }
 {
-    let rhs = *rhs;
-    let mut answer = lhs.try_clone(alloc)?;
-    arity_assign::unary(alloc, &mut answer, |a| either_bits(a, rhs))?;
-    Ok(answer)
+    bits::bitwise_scalar::<T, bits::Or>(alloc, lhs, rhs)
 }
 
 /// The bits that are set in each slot or in a number, and not in both. A null slot stays null; the
@@ -102,10 +94,7 @@ pub fn xor_scalar<T: NativeWhole>(
     ensures answer { Answers column_of result
         (scalar_answer (xor_step T.whole_type) (column_of lhs.now) (whole (T.value rhs.now))) }
 {
-    let rhs = *rhs;
-    let mut answer = lhs.try_clone(alloc)?;
-    arity_assign::unary(alloc, &mut answer, |a| differing_bits(a, rhs))?;
-    Ok(answer)
+    bits::bitwise_scalar::<T, bits::Xor>(alloc, lhs, rhs)
 }
 
 /// The bits that are set both in each slot and in a number. A null slot stays null; the type is
@@ -118,34 +107,7 @@ pub fn and_scalar<T: NativeWhole>(
     ensures answer { Answers column_of result
         (scalar_answer (and_step T.whole_type) (column_of lhs.now) (whole (T.value rhs.now))) }
 {
-    let rhs = *rhs;
-    let mut answer = lhs.try_clone(alloc)?;
-    arity_assign::unary(alloc, &mut answer, |a| common_bits(a, rhs))?;
-    Ok(answer)
-}
-
-// The bits that are set in one of two numbers or in both.
-fn either_bits<T: NativeWhole>(a: T, b: T) -> T
-    ensures { Ok (whole (T.value result))
-        ≡ as_errors (or_step T.whole_type (whole (T.value a)) (whole (T.value b))) }
-{
-    a.bit_or(b)
-}
-
-// The bits that are set in one of two numbers alone.
-fn differing_bits<T: NativeWhole>(a: T, b: T) -> T
-    ensures { Ok (whole (T.value result))
-        ≡ as_errors (xor_step T.whole_type (whole (T.value a)) (whole (T.value b))) }
-{
-    a.bit_xor(b)
-}
-
-// The bits that are set in both of two numbers.
-fn common_bits<T: NativeWhole>(a: T, b: T) -> T
-    ensures { Ok (whole (T.value result))
-        ≡ as_errors (and_step T.whole_type (whole (T.value a)) (whole (T.value b))) }
-{
-    a.bit_and(b)
+    bits::bitwise_scalar::<T, bits::And>(alloc, lhs, rhs)
 }
 
 // The bits that are not set in a number.

@@ -2,6 +2,7 @@
 #![tactic(auto)]
 
 mod basic;
+mod bits;
 pub mod bitwise;
 mod kernels;
 pub mod laws;
