@@ -1,7 +1,7 @@
 //! The kernels of each form, for any operation: on two arrays, and on an array and a number.
 ghost use Rattle.std.specs.Prelude.{◌≡◌, Ok};
 ghost use Rattle.col_model.specs.Cell.{whole};
-ghost use Rattle.col_model.specs.WholeStep.{checked, is_overflowing, plain, saturating};
+ghost use Rattle.col_model.specs.WholeStep.{Form, checked, is_overflowing, plain};
 ghost use Rattle.col_model.specs.WholeStep.{whole_step, wrapping};
 ghost use Rattle.col_types.specs.Answer.{Answers, as_errors};
 ghost use Rattle.col_types.specs.Column.{kernel_answer, scalar_answer};
@@ -20,7 +20,7 @@ use col_types::{Error, NativeArithmetics};
 use std::alloc::Global;
 
 // The plain form on two arrays.
-pub(crate) fn plain<T: NativeArithmetics, O: Operator<T>>(
+pub(crate) fn plain_two<T: NativeArithmetics, O: Operator<T>>(
     alloc: Global,
     lhs: &PrimitiveArray<T>,
     rhs: &PrimitiveArray<T>,
@@ -35,7 +35,7 @@ pub(crate) fn plain<T: NativeArithmetics, O: Operator<T>>(
 }
 
 // The plain form on an array and a number.
-pub(crate) fn plain_scalar<T: NativeArithmetics, O: Operator<T>>(
+pub(crate) fn plain_one<T: NativeArithmetics, O: Operator<T>>(
     alloc: Global,
     lhs: &PrimitiveArray<T>,
     rhs: &T,
@@ -50,7 +50,7 @@ pub(crate) fn plain_scalar<T: NativeArithmetics, O: Operator<T>>(
 }
 
 // The checked form on two arrays.
-pub(crate) fn checked<T: NativeArithmetics, O: Operator<T>>(
+pub(crate) fn checked_two<T: NativeArithmetics, O: Operator<T>>(
     alloc: Global,
     lhs: &PrimitiveArray<T>,
     rhs: &PrimitiveArray<T>,
@@ -65,7 +65,7 @@ pub(crate) fn checked<T: NativeArithmetics, O: Operator<T>>(
 }
 
 // The checked form on an array and a number.
-pub(crate) fn checked_scalar<T: NativeArithmetics, O: Operator<T>>(
+pub(crate) fn checked_one<T: NativeArithmetics, O: Operator<T>>(
     alloc: Global,
     lhs: &PrimitiveArray<T>,
     rhs: &T,
@@ -79,72 +79,40 @@ pub(crate) fn checked_scalar<T: NativeArithmetics, O: Operator<T>>(
     unary_checked(alloc, lhs, |a| checked_number::<T, O>(a, rhs), data_type)
 }
 
-// The wrapping form on two arrays.
-pub(crate) fn wrapping<T: NativeArithmetics, O: TotalOperator<T>>(
+// A form that has an answer for any two numbers, on two arrays.
+pub(crate) fn total_two<T: NativeArithmetics, O: TotalOperator<T>, F: TotalForm>(
     alloc: Global,
     lhs: &PrimitiveArray<T>,
     rhs: &PrimitiveArray<T>,
 ) -> Result<PrimitiveArray<T>, Error>
     ensures answer { Answers column_of result
-        (kernel_answer (whole_step O.Operator.operation wrapping T.whole_type)
+        (kernel_answer (whole_step O.Operator.operation F.form T.whole_type)
         (column_of lhs.now) (column_of rhs.now)) }
 {
-    let number = |a, b| wrapping_number::<T, O>(a, b);
+    let number = |a, b| F::number::<T, O>(a, b);
     let mut answer = lhs.try_clone(alloc)?;
     arity_assign::binary(alloc, &mut answer, rhs, number)?;
     Ok(answer)
 }
 
-// The wrapping form on an array and a number.
-pub(crate) fn wrapping_scalar<T: NativeArithmetics, O: TotalOperator<T>>(
+// Such a form on an array and a number.
+pub(crate) fn total_one<T: NativeArithmetics, O: TotalOperator<T>, F: TotalForm>(
     alloc: Global,
     lhs: &PrimitiveArray<T>,
     rhs: &T,
 ) -> Result<PrimitiveArray<T>, Error>
     ensures answer { Answers column_of result
-        (scalar_answer (whole_step O.Operator.operation wrapping T.whole_type)
+        (scalar_answer (whole_step O.Operator.operation F.form T.whole_type)
         (column_of lhs.now) (whole (T.value rhs.now))) }
 {
     let rhs = *rhs;
     let mut answer = lhs.try_clone(alloc)?;
-    arity_assign::unary(alloc, &mut answer, |a| wrapping_number::<T, O>(a, rhs))?;
-    Ok(answer)
-}
-
-// The saturating form on two arrays.
-pub(crate) fn saturating<T: NativeArithmetics, O: TotalOperator<T>>(
-    alloc: Global,
-    lhs: &PrimitiveArray<T>,
-    rhs: &PrimitiveArray<T>,
-) -> Result<PrimitiveArray<T>, Error>
-    ensures answer { Answers column_of result
-        (kernel_answer (whole_step O.Operator.operation saturating T.whole_type)
-        (column_of lhs.now) (column_of rhs.now)) }
-{
-    let number = |a, b| saturating_number::<T, O>(a, b);
-    let mut answer = lhs.try_clone(alloc)?;
-    arity_assign::binary(alloc, &mut answer, rhs, number)?;
-    Ok(answer)
-}
-
-// The saturating form on an array and a number.
-pub(crate) fn saturating_scalar<T: NativeArithmetics, O: TotalOperator<T>>(
-    alloc: Global,
-    lhs: &PrimitiveArray<T>,
-    rhs: &T,
-) -> Result<PrimitiveArray<T>, Error>
-    ensures answer { Answers column_of result
-        (scalar_answer (whole_step O.Operator.operation saturating T.whole_type)
-        (column_of lhs.now) (whole (T.value rhs.now))) }
-{
-    let rhs = *rhs;
-    let mut answer = lhs.try_clone(alloc)?;
-    arity_assign::unary(alloc, &mut answer, |a| saturating_number::<T, O>(a, rhs))?;
+    arity_assign::unary(alloc, &mut answer, |a| F::number::<T, O>(a, rhs))?;
     Ok(answer)
 }
 
 // The overflowing form on two arrays: the wrapped numbers, and a flag for each row.
-pub(crate) fn overflowing<T: NativeArithmetics, O: TotalOperator<T>>(
+pub(crate) fn flagged_two<T: NativeArithmetics, O: TotalOperator<T>>(
     alloc: Global,
     lhs: &PrimitiveArray<T>,
     rhs: &PrimitiveArray<T>,
@@ -159,7 +127,7 @@ pub(crate) fn overflowing<T: NativeArithmetics, O: TotalOperator<T>>(
 }
 
 // The overflowing form on an array and a number.
-pub(crate) fn overflowing_scalar<T: NativeArithmetics, O: TotalOperator<T>>(
+pub(crate) fn flagged_one<T: NativeArithmetics, O: TotalOperator<T>>(
     alloc: Global,
     lhs: &PrimitiveArray<T>,
     rhs: &T,
@@ -193,22 +161,42 @@ fn checked_number<T: NativeArithmetics, O: Operator<T>>(a: T, b: T) -> Option<T>
     O::checked(a, b)
 }
 
-// What the wrapping form gives for two numbers.
-fn wrapping_number<T: NativeArithmetics, O: TotalOperator<T>>(a: T, b: T) -> T
-    ensures { Ok (whole (T.value result)) ≡ as_errors
-        (whole_step O.Operator.operation wrapping T.whole_type
-        (whole (T.value a)) (whole (T.value b))) }
-{
-    O::wrapped(a, b)
+// A form that has an answer for any two numbers.
+pub(crate) trait TotalForm {
+    // Which form it is.
+    ghost form: { Form };
+
+    // What it gives for two numbers.
+    fn number<T: NativeArithmetics, O: TotalOperator<T>>(a: T, b: T) -> T
+        ensures { Ok (whole (T.value result)) ≡ as_errors
+            (whole_step O.Operator.operation form T.whole_type
+            (whole (T.value a)) (whole (T.value b))) };
 }
 
-// What the saturating form gives for two numbers.
-fn saturating_number<T: NativeArithmetics, O: TotalOperator<T>>(a: T, b: T) -> T
-    ensures { Ok (whole (T.value result)) ≡ as_errors
-        (whole_step O.Operator.operation saturating T.whole_type
-        (whole (T.value a)) (whole (T.value b))) }
-{
-    O::clamped(a, b)
+// The form that wraps.
+pub(crate) struct Wrapping;
+
+impl TotalForm for Wrapping {
+    ghost use Rattle.col_model.specs.WholeStep.{wrapping};
+
+    ghost form = { wrapping };
+
+    fn number<T: NativeArithmetics, O: TotalOperator<T>>(a: T, b: T) -> T {
+        O::wrapped(a, b)
+    }
+}
+
+// The form that saturates.
+pub(crate) struct Saturating;
+
+impl TotalForm for Saturating {
+    ghost use Rattle.col_model.specs.WholeStep.{saturating};
+
+    ghost form = { saturating };
+
+    fn number<T: NativeArithmetics, O: TotalOperator<T>>(a: T, b: T) -> T {
+        O::clamped(a, b)
+    }
 }
 
 // What the overflowing form gives for two numbers: the wrapped number, and whether it is another
@@ -221,5 +209,5 @@ fn overflowing_number<T: NativeArithmetics, O: TotalOperator<T>>(a: T, b: T) -> 
         ≡ is_overflowing O.Operator.operation T.whole_type (T.value a) (T.value b) }
 {
     let fits = O::checked(a, b).is_some();
-    (wrapping_number::<T, O>(a, b), !fits)
+    (Wrapping::number::<T, O>(a, b), !fits)
 }

@@ -7,7 +7,7 @@ ghost use Rattle.col_types.specs.Column.{kernel_answer, scalar_answer};
 ghost use Rattle.col_flat.specs.Parts.{column_of};
 ghost use Rattle.col_basic.specs.Flagged.{flagged_answer, flagged_scalar_answer};
 
-use crate::kernels;
+use crate::kernels::{self, Saturating, Wrapping};
 use crate::operator::Addition;
 use col_buf::Bitmap;
 use col_flat::PrimitiveArray;
@@ -27,7 +27,7 @@ pub fn add<T: NativeArithmetics>(
         (kernel_answer (whole_step addition plain T.whole_type)
         (column_of lhs.now) (column_of rhs.now)) }
 {
-    kernels::plain::<T, Addition>(alloc, lhs, rhs)
+    kernels::plain_two::<T, Addition>(alloc, lhs, rhs)
 }
 
 /// Adds two arrays row by row. A sum is taken modulo 2^w, w being the width of the type. A row
@@ -43,7 +43,7 @@ pub fn wrapping_add<T: NativeArithmetics>(
         (kernel_answer (whole_step addition wrapping T.whole_type)
         (column_of lhs.now) (column_of rhs.now)) }
 {
-    kernels::wrapping::<T, Addition>(alloc, lhs, rhs)
+    kernels::total_two::<T, Addition, Wrapping>(alloc, lhs, rhs)
 }
 
 /// Adds two arrays row by row. A row where either slot is null, or whose sum does not fit, is null;
@@ -59,7 +59,7 @@ pub fn checked_add<T: NativeArithmetics>(
         (kernel_answer (whole_step addition checked T.whole_type)
         (column_of lhs.now) (column_of rhs.now)) }
 {
-    kernels::checked::<T, Addition>(alloc, lhs, rhs)
+    kernels::checked_two::<T, Addition>(alloc, lhs, rhs)
 }
 
 /// Adds two arrays row by row. A sum past an end of the type is that end. A row where either slot
@@ -75,7 +75,7 @@ pub fn saturating_add<T: NativeArithmetics>(
         (kernel_answer (whole_step addition saturating T.whole_type)
         (column_of lhs.now) (column_of rhs.now)) }
 {
-    kernels::saturating::<T, Addition>(alloc, lhs, rhs)
+    kernels::total_two::<T, Addition, Saturating>(alloc, lhs, rhs)
 }
 
 /// Adds two arrays row by row. A sum is taken modulo 2^w, w being the width of the type, and the
@@ -91,7 +91,7 @@ pub fn overflowing_add<T: NativeArithmetics>(
     ensures answer { Answers (λ made. (column_of made.0, made.1)) result
         (flagged_answer addition T.whole_type (column_of lhs.now) (column_of rhs.now)) }
 {
-    kernels::overflowing::<T, Addition>(alloc, lhs, rhs)
+    kernels::flagged_two::<T, Addition>(alloc, lhs, rhs)
 }
 
 /// Adds a number to each slot. A null slot stays null; the type is that of `lhs`.
@@ -106,7 +106,7 @@ pub fn add_scalar<T: NativeArithmetics>(
         (scalar_answer (whole_step addition plain T.whole_type)
         (column_of lhs.now) (whole (T.value rhs.now))) }
 {
-    kernels::plain_scalar::<T, Addition>(alloc, lhs, rhs)
+    kernels::plain_one::<T, Addition>(alloc, lhs, rhs)
 }
 
 /// Adds a number to each slot. A sum is taken modulo 2^w, w being the width of the type. A null
@@ -122,7 +122,7 @@ pub fn wrapping_add_scalar<T: NativeArithmetics>(
         (scalar_answer (whole_step addition wrapping T.whole_type)
         (column_of lhs.now) (whole (T.value rhs.now))) }
 {
-    kernels::wrapping_scalar::<T, Addition>(alloc, lhs, rhs)
+    kernels::total_one::<T, Addition, Wrapping>(alloc, lhs, rhs)
 }
 
 /// Adds a number to each slot. A null slot stays null, and a slot whose sum does not fit is null;
@@ -138,7 +138,7 @@ pub fn checked_add_scalar<T: NativeArithmetics>(
         (scalar_answer (whole_step addition checked T.whole_type)
         (column_of lhs.now) (whole (T.value rhs.now))) }
 {
-    kernels::checked_scalar::<T, Addition>(alloc, lhs, rhs)
+    kernels::checked_one::<T, Addition>(alloc, lhs, rhs)
 }
 
 /// Adds a number to each slot. A sum past an end of the type is that end. A null slot stays null;
@@ -154,7 +154,7 @@ pub fn saturating_add_scalar<T: NativeArithmetics>(
         (scalar_answer (whole_step addition saturating T.whole_type)
         (column_of lhs.now) (whole (T.value rhs.now))) }
 {
-    kernels::saturating_scalar::<T, Addition>(alloc, lhs, rhs)
+    kernels::total_one::<T, Addition, Saturating>(alloc, lhs, rhs)
 }
 
 /// Adds a number to each slot. A sum is taken modulo 2^w, w being the width of the type, and the
@@ -171,5 +171,5 @@ pub fn overflowing_add_scalar<T: NativeArithmetics>(
         (flagged_scalar_answer addition T.whole_type
         (column_of lhs.now) (whole (T.value rhs.now))) }
 {
-    kernels::overflowing_scalar::<T, Addition>(alloc, lhs, rhs)
+    kernels::flagged_one::<T, Addition>(alloc, lhs, rhs)
 }

@@ -26,7 +26,7 @@ pub fn div<T: NativeArithmetics>(
         (kernel_answer (whole_step division plain T.whole_type)
         (column_of lhs.now) (column_of rhs.now)) }
 {
-    kernels::plain::<T, Division>(alloc, lhs, rhs)
+    kernels::plain_two::<T, Division>(alloc, lhs, rhs)
 }
 
 /// Divides the first array by the second, row by row; a quotient goes toward zero. A row is null
@@ -43,7 +43,7 @@ pub fn checked_div<T: NativeArithmetics>(
         (kernel_answer (whole_step division checked T.whole_type)
         (column_of lhs.now) (column_of rhs.now)) }
 {
-    kernels::checked::<T, Division>(alloc, lhs, rhs)
+    kernels::checked_two::<T, Division>(alloc, lhs, rhs)
 }
 
 /// Divides each slot by a number; a quotient goes toward zero. A null slot stays null; the type is
@@ -60,7 +60,7 @@ pub fn div_scalar<T: NativeArithmetics>(
         (scalar_answer (whole_step division plain T.whole_type)
         (column_of lhs.now) (whole (T.value rhs.now))) }
 {
-    kernels::plain_scalar::<T, Division>(alloc, lhs, rhs)
+    kernels::plain_one::<T, Division>(alloc, lhs, rhs)
 }
 
 /// Divides each slot by a number; a quotient goes toward zero. A null slot stays null, and a slot
@@ -76,5 +76,5 @@ pub fn checked_div_scalar<T: NativeArithmetics>(
         (scalar_answer (whole_step division checked T.whole_type)
         (column_of lhs.now) (whole (T.value rhs.now))) }
 {
-    kernels::checked_scalar::<T, Division>(alloc, lhs, rhs)
+    kernels::checked_one::<T, Division>(alloc, lhs, rhs)
 }

@@ -7,7 +7,7 @@ ghost use Rattle.col_types.specs.Column.{kernel_answer, scalar_answer};
 ghost use Rattle.col_flat.specs.Parts.{column_of};
 ghost use Rattle.col_basic.specs.Flagged.{flagged_answer, flagged_scalar_answer};
 
-use crate::kernels;
+use crate::kernels::{self, Saturating, Wrapping};
 use crate::operator::Multiplication;
 use col_buf::Bitmap;
 use col_flat::PrimitiveArray;
@@ -28,7 +28,7 @@ pub fn mul<T: NativeArithmetics>(
         (kernel_answer (whole_step multiplication plain T.whole_type)
         (column_of lhs.now) (column_of rhs.now)) }
 {
-    kernels::plain::<T, Multiplication>(alloc, lhs, rhs)
+    kernels::plain_two::<T, Multiplication>(alloc, lhs, rhs)
 }
 
 /// Multiplies two arrays row by row. A product is taken modulo 2^w, w being the width of the type.
@@ -44,7 +44,7 @@ pub fn wrapping_mul<T: NativeArithmetics>(
         (kernel_answer (whole_step multiplication wrapping T.whole_type)
         (column_of lhs.now) (column_of rhs.now)) }
 {
-    kernels::wrapping::<T, Multiplication>(alloc, lhs, rhs)
+    kernels::total_two::<T, Multiplication, Wrapping>(alloc, lhs, rhs)
 }
 
 /// Multiplies two arrays row by row. A row where either slot is null, or whose product does not
@@ -60,7 +60,7 @@ pub fn checked_mul<T: NativeArithmetics>(
         (kernel_answer (whole_step multiplication checked T.whole_type)
         (column_of lhs.now) (column_of rhs.now)) }
 {
-    kernels::checked::<T, Multiplication>(alloc, lhs, rhs)
+    kernels::checked_two::<T, Multiplication>(alloc, lhs, rhs)
 }
 
 /// Multiplies two arrays row by row. A product past an end of the type is that end. A row where
@@ -76,7 +76,7 @@ pub fn saturating_mul<T: NativeArithmetics>(
         (kernel_answer (whole_step multiplication saturating T.whole_type)
         (column_of lhs.now) (column_of rhs.now)) }
 {
-    kernels::saturating::<T, Multiplication>(alloc, lhs, rhs)
+    kernels::total_two::<T, Multiplication, Saturating>(alloc, lhs, rhs)
 }
 
 /// Multiplies two arrays row by row. A product is taken modulo 2^w, w being the width of the type,
@@ -92,7 +92,7 @@ pub fn overflowing_mul<T: NativeArithmetics>(
     ensures answer { Answers (λ made. (column_of made.0, made.1)) result
         (flagged_answer multiplication T.whole_type (column_of lhs.now) (column_of rhs.now)) }
 {
-    kernels::overflowing::<T, Multiplication>(alloc, lhs, rhs)
+    kernels::flagged_two::<T, Multiplication>(alloc, lhs, rhs)
 }
 
 /// Multiplies each slot by a number. A null slot stays null; the type is that of `lhs`.
@@ -107,7 +107,7 @@ pub fn mul_scalar<T: NativeArithmetics>(
         (scalar_answer (whole_step multiplication plain T.whole_type)
         (column_of lhs.now) (whole (T.value rhs.now))) }
 {
-    kernels::plain_scalar::<T, Multiplication>(alloc, lhs, rhs)
+    kernels::plain_one::<T, Multiplication>(alloc, lhs, rhs)
 }
 
 /// Multiplies each slot by a number. A product is taken modulo 2^w, w being the width of the type.
@@ -123,7 +123,7 @@ pub fn wrapping_mul_scalar<T: NativeArithmetics>(
         (scalar_answer (whole_step multiplication wrapping T.whole_type)
         (column_of lhs.now) (whole (T.value rhs.now))) }
 {
-    kernels::wrapping_scalar::<T, Multiplication>(alloc, lhs, rhs)
+    kernels::total_one::<T, Multiplication, Wrapping>(alloc, lhs, rhs)
 }
 
 /// Multiplies each slot by a number. A null slot stays null, and a slot whose product does not fit
@@ -139,7 +139,7 @@ pub fn checked_mul_scalar<T: NativeArithmetics>(
         (scalar_answer (whole_step multiplication checked T.whole_type)
         (column_of lhs.now) (whole (T.value rhs.now))) }
 {
-    kernels::checked_scalar::<T, Multiplication>(alloc, lhs, rhs)
+    kernels::checked_one::<T, Multiplication>(alloc, lhs, rhs)
 }
 
 /// Multiplies each slot by a number. A product past an end of the type is that end. A null slot
@@ -155,7 +155,7 @@ pub fn saturating_mul_scalar<T: NativeArithmetics>(
         (scalar_answer (whole_step multiplication saturating T.whole_type)
         (column_of lhs.now) (whole (T.value rhs.now))) }
 {
-    kernels::saturating_scalar::<T, Multiplication>(alloc, lhs, rhs)
+    kernels::total_one::<T, Multiplication, Saturating>(alloc, lhs, rhs)
 }
 
 /// Multiplies each slot by a number. A product is taken modulo 2^w, w being the width of the type,
@@ -172,5 +172,5 @@ pub fn overflowing_mul_scalar<T: NativeArithmetics>(
         (flagged_scalar_answer multiplication T.whole_type
         (column_of lhs.now) (whole (T.value rhs.now))) }
 {
-    kernels::overflowing_scalar::<T, Multiplication>(alloc, lhs, rhs)
+    kernels::flagged_one::<T, Multiplication>(alloc, lhs, rhs)
 }

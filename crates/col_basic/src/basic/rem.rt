@@ -26,7 +26,7 @@ pub fn rem<T: NativeArithmetics>(
         (kernel_answer (whole_step remainder plain T.whole_type)
         (column_of lhs.now) (column_of rhs.now)) }
 {
-    kernels::plain::<T, Remainder>(alloc, lhs, rhs)
+    kernels::plain_two::<T, Remainder>(alloc, lhs, rhs)
 }
 
 /// The remainders of the first array by the second, row by row, with the sign of the dividend. A
@@ -43,7 +43,7 @@ pub fn checked_rem<T: NativeArithmetics>(
         (kernel_answer (whole_step remainder checked T.whole_type)
         (column_of lhs.now) (column_of rhs.now)) }
 {
-    kernels::checked::<T, Remainder>(alloc, lhs, rhs)
+    kernels::checked_two::<T, Remainder>(alloc, lhs, rhs)
 }
 
 /// The remainder of each slot by a number, with the sign of the slot. A null slot stays null; the
@@ -60,7 +60,7 @@ pub fn rem_scalar<T: NativeArithmetics>(
         (scalar_answer (whole_step remainder plain T.whole_type)
         (column_of lhs.now) (whole (T.value rhs.now))) }
 {
-    kernels::plain_scalar::<T, Remainder>(alloc, lhs, rhs)
+    kernels::plain_one::<T, Remainder>(alloc, lhs, rhs)
 }
 
 /// The remainder of each slot by a number, with the sign of the slot. A null slot stays null, and a
@@ -76,5 +76,5 @@ pub fn checked_rem_scalar<T: NativeArithmetics>(
         (scalar_answer (whole_step remainder checked T.whole_type)
         (column_of lhs.now) (whole (T.value rhs.now))) }
 {
-    kernels::checked_scalar::<T, Remainder>(alloc, lhs, rhs)
+    kernels::checked_one::<T, Remainder>(alloc, lhs, rhs)
 }

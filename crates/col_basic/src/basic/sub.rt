@@ -7,7 +7,7 @@ ghost use Rattle.col_types.specs.Column.{kernel_answer, scalar_answer};
 ghost use Rattle.col_flat.specs.Parts.{column_of};
 ghost use Rattle.col_basic.specs.Flagged.{flagged_answer, flagged_scalar_answer};
 
-use crate::kernels;
+use crate::kernels::{self, Saturating, Wrapping};
 use crate::operator::Subtraction;
 use col_buf::Bitmap;
 use col_flat::PrimitiveArray;
@@ -28,7 +28,7 @@ pub fn sub<T: NativeArithmetics>(
         (kernel_answer (whole_step subtraction plain T.whole_type)
         (column_of lhs.now) (column_of rhs.now)) }
 {
-    kernels::plain::<T, Subtraction>(alloc, lhs, rhs)
+    kernels::plain_two::<T, Subtraction>(alloc, lhs, rhs)
 }
 
 /// Subtracts the second array from the first, row by row. A difference is taken modulo 2^w, w being
@@ -44,7 +44,7 @@ pub fn wrapping_sub<T: NativeArithmetics>(
         (kernel_answer (whole_step subtraction wrapping T.whole_type)
         (column_of lhs.now) (column_of rhs.now)) }
 {
-    kernels::wrapping::<T, Subtraction>(alloc, lhs, rhs)
+    kernels::total_two::<T, Subtraction, Wrapping>(alloc, lhs, rhs)
 }
 
 /// Subtracts the second array from the first, row by row. A row where either slot is null, or whose
@@ -60,7 +60,7 @@ pub fn checked_sub<T: NativeArithmetics>(
         (kernel_answer (whole_step subtraction checked T.whole_type)
         (column_of lhs.now) (column_of rhs.now)) }
 {
-    kernels::checked::<T, Subtraction>(alloc, lhs, rhs)
+    kernels::checked_two::<T, Subtraction>(alloc, lhs, rhs)
 }
 
 /// Subtracts the second array from the first, row by row. A difference past an end of the type is
@@ -76,7 +76,7 @@ pub fn saturating_sub<T: NativeArithmetics>(
         (kernel_answer (whole_step subtraction saturating T.whole_type)
         (column_of lhs.now) (column_of rhs.now)) }
 {
-    kernels::saturating::<T, Subtraction>(alloc, lhs, rhs)
+    kernels::total_two::<T, Subtraction, Saturating>(alloc, lhs, rhs)
 }
 
 /// Subtracts the second array from the first, row by row. A difference is taken modulo 2^w, w being
@@ -92,7 +92,7 @@ pub fn overflowing_sub<T: NativeArithmetics>(
     ensures answer { Answers (λ made. (column_of made.0, made.1)) result
         (flagged_answer subtraction T.whole_type (column_of lhs.now) (column_of rhs.now)) }
 {
-    kernels::overflowing::<T, Subtraction>(alloc, lhs, rhs)
+    kernels::flagged_two::<T, Subtraction>(alloc, lhs, rhs)
 }
 
 /// Subtracts a number from each slot. A null slot stays null; the type is that of `lhs`.
@@ -107,7 +107,7 @@ pub fn sub_scalar<T: NativeArithmetics>(
         (scalar_answer (whole_step subtraction plain T.whole_type)
         (column_of lhs.now) (whole (T.value rhs.now))) }
 {
-    kernels::plain_scalar::<T, Subtraction>(alloc, lhs, rhs)
+    kernels::plain_one::<T, Subtraction>(alloc, lhs, rhs)
 }
 
 /// Subtracts a number from each slot. A difference is taken modulo 2^w, w being the width of the
@@ -123,7 +123,7 @@ pub fn wrapping_sub_scalar<T: NativeArithmetics>(
         (scalar_answer (whole_step subtraction wrapping T.whole_type)
         (column_of lhs.now) (whole (T.value rhs.now))) }
 {
-    kernels::wrapping_scalar::<T, Subtraction>(alloc, lhs, rhs)
+    kernels::total_one::<T, Subtraction, Wrapping>(alloc, lhs, rhs)
 }
 
 /// Subtracts a number from each slot. A null slot stays null, and a slot whose difference does not
@@ -139,7 +139,7 @@ pub fn checked_sub_scalar<T: NativeArithmetics>(
         (scalar_answer (whole_step subtraction checked T.whole_type)
         (column_of lhs.now) (whole (T.value rhs.now))) }
 {
-    kernels::checked_scalar::<T, Subtraction>(alloc, lhs, rhs)
+    kernels::checked_one::<T, Subtraction>(alloc, lhs, rhs)
 }
 
 /// Subtracts a number from each slot. A difference past an end of the type is that end. A null slot
@@ -155,7 +155,7 @@ pub fn saturating_sub_scalar<T: NativeArithmetics>(
         (scalar_answer (whole_step subtraction saturating T.whole_type)
         (column_of lhs.now) (whole (T.value rhs.now))) }
 {
-    kernels::saturating_scalar::<T, Subtraction>(alloc, lhs, rhs)
+    kernels::total_one::<T, Subtraction, Saturating>(alloc, lhs, rhs)
 }
 
 /// Subtracts a number from each slot. A difference is taken modulo 2^w, w being the width of the
@@ -172,5 +172,5 @@ pub fn overflowing_sub_scalar<T: NativeArithmetics>(
         (flagged_scalar_answer subtraction T.whole_type
         (column_of lhs.now) (whole (T.value rhs.now))) }
 {
-    kernels::overflowing_scalar::<T, Subtraction>(alloc, lhs, rhs)
+    kernels::flagged_one::<T, Subtraction>(alloc, lhs, rhs)
 }

@@ -3,7 +3,7 @@ use Rattle.col_model.specs.Cell.{whole}
 use Rattle.col_model.specs.WholeStep.{exact_result, saturating}
 use Rattle.col_basic.proofs.StepLemmas.{total_step}
 use Rattle.col_basic.proofs.FormLemmas.{nearest-fitting}
-use Rattle.col_basic.proofs.kernels.saturating_number.Goals as goal
+use Rattle.col_basic.proofs.kernels.SaturatingTotalForm.number.Goals as goal
 
 pub returns : goal.returns
 returns g c =

@@ -1,8 +1,8 @@
 use Rattle.std.proofs.Common.{rules}
-use Rattle.col_model.specs.WholeStep.{saturating, whole_step}
+use Rattle.col_model.specs.WholeStep.{whole_step}
 use Rattle.col_basic.proofs.KernelLemmas.{placed_two, whole_values}
 use Rattle.col_basic.proofs.StepLemmas.{whole_strict}
-use Rattle.col_basic.proofs.kernels.saturating.Goals as goal
+use Rattle.col_basic.proofs.kernels.total_two.Goals as goal
 
 pub returns : goal.returns
 returns g c =
@@ -12,7 +12,7 @@ returns g c =
     record {
       answer =
           placed_two (whole_values g.T.NativeType g.T.NativeWhole g.met.T.NativeWhole.value_law)
-          (whole_step operation saturating t) c.args.lhs.now c.in_ok-answer.answer c.args.rhs.now
-          c.binary.new.lhs _ c.in_ok-binary.field-0 (whole_strict operation saturating t)
+          (whole_step operation g.F.TotalForm.form t) c.args.lhs.now c.in_ok-answer.answer c.args.rhs.now
+          c.binary.new.lhs _ c.in_ok-binary.field-0 (whole_strict operation g.F.TotalForm.form t)
           c.in_ok-answer.ensures.value made.answer made.lengths (λ p r h. search rules);
     }

@@ -3,7 +3,7 @@ use Rattle.col_model.specs.Cell.{whole}
 use Rattle.col_model.specs.WholeStep.{exact_result, wrapping}
 use Rattle.col_basic.proofs.StepLemmas.{total_step}
 use Rattle.col_basic.proofs.FormLemmas.{wrapped-fitting}
-use Rattle.col_basic.proofs.kernels.wrapping_number.Goals as goal
+use Rattle.col_basic.proofs.kernels.WrappingTotalForm.number.Goals as goal
 
 pub returns : goal.returns
 returns g c =

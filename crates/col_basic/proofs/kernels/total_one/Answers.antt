@@ -1,13 +1,13 @@
 use Rattle.std.proofs.Common.{refl, rules}
 use Rattle.col_model.specs.Cell.{whole}
-use Rattle.col_model.specs.WholeStep.{whole_step, wrapping}
+use Rattle.col_model.specs.WholeStep.{whole_step}
 use Rattle.col_flat.specs.Parts.{column_of}
 use Rattle.col_basic.proofs.KernelLemmas.{placed_one, scalar-unary, whole_values}
-use Rattle.col_basic.proofs.kernels.wrapping_scalar.Goals as goal
+use Rattle.col_basic.proofs.kernels.total_one.Goals as goal
 
 pub returns : goal.returns
 returns g c =
-    let step = whole_step g.O.Operator.operation wrapping g.T.NativeWhole.whole_type in
+    let step = whole_step g.O.Operator.operation g.F.TotalForm.form g.T.NativeWhole.whole_type in
     let cell = whole (g.T.NativeWhole.value c.args.rhs.now) in
     record {
       answer =

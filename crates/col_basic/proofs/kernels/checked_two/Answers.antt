@@ -3,7 +3,7 @@ use Rattle.col_model.specs.WholeStep.{checked, whole_step}
 use Rattle.col_types.specs.DataKind.{kind_of}
 use Rattle.col_basic.proofs.KernelLemmas.{options, total_two, whole_values}
 use Rattle.col_basic.proofs.StepLemmas.{whole_strict}
-use Rattle.col_basic.proofs.kernels.checked.Goals as goal
+use Rattle.col_basic.proofs.kernels.checked_two.Goals as goal
 
 pub returns : goal.returns
 returns g c =
