@@ -14,7 +14,8 @@ use Rattle.col_flat.specs.Parts.{slot_pairs, slots_of, zipped_slots}
 use Rattle.col_flat.proofs.PartsLemmas.{IsMaskOf-flags, masked_slots-flags, row_count-values}
 use Rattle.col_types.specs.Column.{row_count}
 use Rattle.col_arity.proofs.BeneathLemmas.{AnswersWith-some, length-made}
-use Rattle.col_arity.specs.Rows.{AnswersWith, IsCallableAtStored, IsCallableAtValid, IsMapped, MapsSlots}
+use Rattle.col_arity.specs.Rows.{AnswersWith, IsCallableAtStored, IsCallableAtValid, IsMapped}
+use Rattle.col_arity.specs.Rows.{MapsSlots}
 use Rattle.col_arity.proofs.RowLemmas.{MapsSoFar, MapsSoFar-end}
 
 -- the values from a row on, as rows that are all valid
@@ -99,7 +100,8 @@ Shows (n ∷ values) (None ∷ slots) = Shows values slots
 Shows (n ∷ values) (Some m ∷ slots) = (m ≡ n) × Shows values slots
 
 -- the slots of an array show the values that it stores
-pub shows_one : (values : List (List ℤ)) (flags : List Bool) → Shows values (masked_slots values flags)
+pub shows_one : (values : List (List ℤ)) (flags : List Bool)
+    → Shows values (masked_slots values flags)
 shows_one [] flags = tt
 shows_one (ns ∷ values) [] = (refl, shows_one values [])
 shows_one (ns ∷ values) (true ∷ flags) = (refl, shows_one values flags)

@@ -20,13 +20,16 @@ pub loop-i-preserved : goal.loop-i-preserved
 loop-i-preserved g c =
     let within : c.loop-i.i < length c.loop-i.values = omega arith in
     let is = stored_pairs_from-next g.T.NativeType.numbers g.D.NativeType.numbers c.loop-i.values
-    c.args.others.now c.loop-i.i c.index-values-i.result c.in_ok-values.field-0 c.index-others-i.result within
+    c.args.others.now c.loop-i.i c.index-values-i.result c.in_ok-values.field-0
+    c.index-others-i.result within
     (omega arith) c.index-values-i.is c.index-others-i.is in
     record {
       callable = callable_rest _ _ c.loop-i.invariant.callable is;
-      rows = MapsSoFar-value (c.index-values-i.result, c.index-others-i.result) c.in_ok-values.field-0
+      rows = MapsSoFar-value (c.index-values-i.result, c.index-others-i.result)
+          c.in_ok-values.field-0
           c.loop-i.invariant.rows is c.in_ok-values.ensures
-          (stored-more g.T.NativeType.numbers c.loop-i.values c.loop-i.i c.in_ok-values.field-0 within);
+          (stored-more g.T.NativeType.numbers c.loop-i.values c.loop-i.i
+          c.in_ok-values.field-0 within);
       refusals = RefusesSoFar-value (c.index-values-i.result, c.index-others-i.result)
           c.in_ok-values.field-0 c.loop-i.invariant.refusals is c.in_ok-values.ensures;
     }
