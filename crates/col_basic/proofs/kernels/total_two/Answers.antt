@@ -12,7 +12,8 @@ returns g c =
     record {
       answer =
           placed_two (whole_values g.T.NativeType g.T.NativeWhole g.met.T.NativeWhole.value_law)
-          (whole_step operation g.F.TotalForm.form t) c.args.lhs.now c.in_ok-answer.answer c.args.rhs.now
+          (whole_step operation g.F.TotalForm.form t)
+          c.args.lhs.now c.in_ok-answer.answer c.args.rhs.now
           c.binary.new.lhs _ c.in_ok-binary.field-0 (whole_strict operation g.F.TotalForm.form t)
           c.in_ok-answer.ensures.value made.answer made.lengths (λ p r h. search rules);
     }
