@@ -1,6 +1,9 @@
-//! Checks of quotients and remainders: each call once, and which refusal comes.
+//! Checks of quotients and remainders, each call once, and of which refusal comes.
 use crate::bytes::{Bytes, Slots, answers, bytes_of};
-use col_basic::{checked_div, checked_div_scalar, checked_rem, checked_rem_scalar, div, rem};
+use col_basic::{
+    add_scalar, checked_div, checked_div_scalar, checked_rem, checked_rem_scalar, div, div_scalar,
+    mul_scalar, rem, rem_scalar, sub_scalar,
+};
 use col_types::{Error, Reason};
 use std::alloc::Global;
 
@@ -96,6 +99,36 @@ fn the_least_row_that_refuses_a_division_gives_the_error(rt: HostRuntime) -> Res
     for (lhs, rhs, wanted) in cases {
         let refusals = refusals_of(rt.alloc(), &lhs, rhs)?;
         assert_eq!(rt; refusals, [wanted; 2], "{lhs:?} by {rhs:?}");
+    }
+    Ok(())
+}
+
+// The refusals of the plain forms beside a number: sum, difference, product, quotient, remainder.
+fn refusals_beside(alloc: Global, lhs: Slots, rhs: i8) -> Result<[Option<Error>; 5], Error> {
+    let lhs = bytes_of(alloc, lhs)?;
+    Ok([
+        add_scalar(alloc, &lhs, &rhs).err(),
+        sub_scalar(alloc, &lhs, &rhs).err(),
+        mul_scalar(alloc, &lhs, &rhs).err(),
+        div_scalar(alloc, &lhs, &rhs).err(),
+        rem_scalar(alloc, &lhs, &rhs).err(),
+    ])
+}
+
+#[test]
+fn plain_forms_beside_a_number_refuse_what_does_not_fit(rt: HostRuntime) -> Result<(), Error> {
+    let over = Some(Error::Overflow);
+    let zero = Some(Error::DivideByZero);
+    let cases = [
+        ([Some(100), None], 100, [over, None, over, None, None]),
+        ([None, Some(-100)], 100, [None, over, over, None, None]),
+        ([None, Some(-128)], -1, [over, None, over, over, over]),
+        ([Some(5), None], 0, [None, None, None, zero, zero]),
+        ([None, None], 0, [None; 5]),
+    ];
+    for (slots, number, wanted) in cases {
+        let refusals = refusals_beside(rt.alloc(), &slots, number)?;
+        assert_eq!(rt; refusals, wanted, "{slots:?} and {number}");
     }
     Ok(())
 }

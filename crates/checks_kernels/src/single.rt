@@ -144,12 +144,12 @@ fn are_scalar_bits(
 #[test]
 fn each_call_on_bits_answers_with_ample_memory(rt: HostRuntime) -> Result<(), Error> {
     let alloc = rt.alloc();
-    let lhs = bytes_of(alloc, &[Some(2), Some(4), Some(6), Some(-1)])?;
-    let rhs = bytes_of(alloc, &[None, Some(6), Some(9), Some(7)])?;
+    let lhs = bytes_of(alloc, &[Some(2), Some(4), Some(6), Some(7), Some(-1)])?;
+    let rhs = bytes_of(alloc, &[None, Some(6), Some(9), Some(7), Some(7)])?;
     let wanted = [
-        [None, Some(6), Some(15), Some(-1)].as_slice(),
-        [None, Some(2), Some(15), Some(-8)].as_slice(),
-        [None, Some(4), Some(0), Some(7)].as_slice(),
+        [None, Some(6), Some(15), Some(7), Some(-1)].as_slice(),
+        [None, Some(2), Some(15), Some(0), Some(-8)].as_slice(),
+        [None, Some(4), Some(0), Some(7), Some(7)].as_slice(),
     ];
     assert_eq!(rt;
         are_bits(alloc, &lhs, &rhs, wanted)?,
@@ -157,9 +157,9 @@ fn each_call_on_bits_answers_with_ample_memory(rt: HostRuntime) -> Result<(), Er
         "two arrays"
     );
     let wanted = [
-        [Some(3), Some(7), Some(7), Some(-1)].as_slice(),
-        [Some(1), Some(7), Some(5), Some(-4)].as_slice(),
-        [Some(2), Some(0), Some(2), Some(3)].as_slice(),
+        [Some(3), Some(7), Some(7), Some(7), Some(-1)].as_slice(),
+        [Some(1), Some(7), Some(5), Some(4), Some(-4)].as_slice(),
+        [Some(2), Some(0), Some(2), Some(3), Some(3)].as_slice(),
     ];
     assert_eq!(rt;
         are_scalar_bits(alloc, &lhs, 3, wanted)?,

@@ -92,31 +92,33 @@ fn are_scalar_products(
 #[test]
 fn each_form_of_two_arrays_answers_with_ample_memory(rt: HostRuntime) -> Result<(), Error> {
     let alloc = rt.alloc();
-    let lhs = bytes_of(alloc, &[Some(100), Some(-100), None, Some(7)])?;
-    let rhs = bytes_of(alloc, &[Some(100), Some(100), Some(5), Some(-3)])?;
-    // 200, 0 and 4
+    let lhs = [Some(100), Some(-100), None, Some(7), Some(100), Some(100)];
+    let lhs = bytes_of(alloc, &lhs)?;
+    let rhs = [Some(100), Some(100), Some(5), Some(-3), Some(0), Some(1)];
+    let rhs = bytes_of(alloc, &rhs)?;
+    // 200, 0, 4, 100 and 101
     let wanted = [
-        [None, Some(0), None, Some(4)].as_slice(),
-        [Some(-56), Some(0), None, Some(4)].as_slice(),
-        [Some(127), Some(0), None, Some(4)].as_slice(),
+        [None, Some(0), None, Some(4), Some(100), Some(101)].as_slice(),
+        [Some(-56), Some(0), None, Some(4), Some(100), Some(101)].as_slice(),
+        [Some(127), Some(0), None, Some(4), Some(100), Some(101)].as_slice(),
     ];
     assert_eq!(rt; are_sums(alloc, &lhs, &rhs, wanted)?, [true; 3], "sums");
-    // 0, -200 and 10
+    // 0, -200, 10, 100 and 99
     let wanted = [
-        [Some(0), None, None, Some(10)].as_slice(),
-        [Some(0), Some(56), None, Some(10)].as_slice(),
-        [Some(0), Some(-128), None, Some(10)].as_slice(),
+        [Some(0), None, None, Some(10), Some(100), Some(99)].as_slice(),
+        [Some(0), Some(56), None, Some(10), Some(100), Some(99)].as_slice(),
+        [Some(0), Some(-128), None, Some(10), Some(100), Some(99)].as_slice(),
     ];
     assert_eq!(rt;
         are_differences(alloc, &lhs, &rhs, wanted)?,
         [true; 3],
         "differences"
     );
-    // 10000, -10000 and -21
+    // 10000, -10000, -21, 0 and 100
     let wanted = [
-        [None, None, None, Some(-21)].as_slice(),
-        [Some(16), Some(-16), None, Some(-21)].as_slice(),
-        [Some(127), Some(-128), None, Some(-21)].as_slice(),
+        [None, None, None, Some(-21), Some(0), Some(100)].as_slice(),
+        [Some(16), Some(-16), None, Some(-21), Some(0), Some(100)].as_slice(),
+        [Some(127), Some(-128), None, Some(-21), Some(0), Some(100)].as_slice(),
     ];
     assert_eq!(rt;
         are_products(alloc, &lhs, &rhs, wanted)?,
@@ -215,9 +217,9 @@ fn a_flag_beside_a_number_is_false_at_a_null(rt: HostRuntime) -> Result<(), Erro
         is_flagged(alloc, answer, &[None, Some(-56)], [false, true])?,
         "sub"
     );
-    let answer = overflowing_mul_scalar(alloc, &lhs, &1);
+    let answer = overflowing_mul_scalar(alloc, &lhs, &2);
     assert!(rt;
-        is_flagged(alloc, answer, &[None, Some(100)], [false, false])?,
+        is_flagged(alloc, answer, &[None, Some(-56)], [false, true])?,
         "mul"
     );
     Ok(())
