@@ -9,11 +9,11 @@ fn column_of(alloc: Global, slots: &[Option<i64>]) -> Result<AnyArray, Error> {
     Ok(AnyArray::from(PrimitiveArray::from_options(alloc, DataType::Int64, slots)?))
 }
 
-// A column of numbers and one of nulls of another type.
+// A column of numbers and one of nulls of a type that no step takes.
 fn table_of(alloc: Global, slots: &[Option<i64>]) -> Result<Table, Error> {
     let mut columns = Vec::with_capacity(alloc, 2)?;
     columns.push(column_of(alloc, slots)?)?;
-    columns.push(AnyArray::new_null(alloc, DataType::UInt8, slots.len())?)?;
+    columns.push(AnyArray::new_null(alloc, DataType::Date32, slots.len())?)?;
     Table::new(columns).map_err(|refused| refused.0)
 }
 
@@ -44,8 +44,8 @@ fn a_table_without_columns_has_no_rows(rt: HostRuntime) -> Result<(), Error> {
 enum Leaf {
     Column(u32),
     Number(Option<i64>),
-    // a null of a type of bytes
-    Byte,
+    // a null of a type that no step takes
+    Date,
 }
 
 fn leaf_of(leaf: Leaf) -> Result<Expr, Error> {
@@ -55,9 +55,9 @@ fn leaf_of(leaf: Leaf) -> Result<Expr, Error> {
             let scalar = PrimitiveScalar::new(DataType::Int64, value)?;
             Ok(Expr::Literal(AnyScalar::Int64(scalar)))
         }
-        Leaf::Byte => {
-            let scalar = PrimitiveScalar::new(DataType::UInt8, None)?;
-            Ok(Expr::Literal(AnyScalar::UInt8(scalar)))
+        Leaf::Date => {
+            let scalar = PrimitiveScalar::new(DataType::Date32, None)?;
+            Ok(Expr::Literal(AnyScalar::Int32(scalar)))
         }
     }
 }
@@ -115,9 +115,9 @@ fn steps_without_an_entry_are_refused_without_rows_too(rt: HostRuntime) -> Resul
     let cases = [
         ((Leaf::Number(Some(1)), Leaf::Column(0)), 0),
         ((Leaf::Number(None), Leaf::Column(0)), 1),
-        ((Leaf::Column(0), Leaf::Byte), 1),
+        ((Leaf::Column(0), Leaf::Date), 1),
         ((Leaf::Column(0), Leaf::Column(1)), 1),
-        ((Leaf::Column(1), Leaf::Byte), 1),
+        ((Leaf::Column(1), Leaf::Date), 1),
         ((Leaf::Column(1), Leaf::Number(None)), 1),
     ];
     for slots in [[].as_slice(), [Some(1), None].as_slice()] {

@@ -12,4 +12,6 @@ mod eval;
 #[cfg(test)]
 mod single;
 #[cfg(test)]
+mod steps;
+#[cfg(test)]
 mod whole;

@@ -1,5 +1,5 @@
 -- Where the columns of a table hold cells of their types, so does what a tree gives.
-use Rattle.std.proofs.Common.{◌≡◌, ℕ, zero, suc, ◌+◌, inl, inr, Bool, true, false}
+use Rattle.std.proofs.Common.{◌≡◌, ℕ, zero, suc, ◌+◌, Bool, true, false}
 use Rattle.std.proofs.Common.{cond, nat_lt, List, [], ◌∷◌, map, slice_get, slice_index_or}
 use Rattle.std.proofs.Common.{Option, None, Some, Result, Ok, Err, IsTrue, ok_or, refl, sym, ◌∙◌}
 use Rattle.std.specs.List.{list_all, range_with_len}
@@ -9,44 +9,27 @@ use Rattle.col_model.specs.Cell.{Cell, null, Cause}
 use Rattle.col_types.specs.CellOf.{HoldsItsCells, is_typed_column, is_cell_of}
 use Rattle.col_types.specs.Column.{Column, row_at, table_row_count, types_of}
 use Rattle.col_types.specs.DataKind.{DataKind}
-use Rattle.col_types.specs.DataKind as kind
 use Rattle.col_types.specs.declared.error.Error.{Error}
 use Rattle.col_types.specs.declared.error.Error.TheVariants.{InvalidArgumentError}
 use Rattle.col_types.specs.declared.error.Reason.TheVariants.{Depth, Position}
-use Rattle.col_basic.proofs.FormLemmas.{typed_step}
 use Rattle.col_eval.specs.declared.expr.Op.{Op}
-use Rattle.col_eval.specs.Entries.{entry_of, form_of, operation_of}
 use Rattle.col_eval.specs.Tree.{Tree, column, literal, step, level_count, step_count}
-use Rattle.col_eval.specs.Typing.{max_levels, right_type, step_type, type_of, typing_of}
+use Rattle.col_eval.specs.Typing.{is_literal, max_levels, right_type, step_type, type_of}
+use Rattle.col_eval.specs.Typing.{typing_of}
 use Rattle.col_eval.specs.Meaning.{RowAnswer, cell, refused_at, at_step, outcome_of}
 use Rattle.col_eval.specs.Meaning.{row_meaning, rows_meaning, rows_of, step_of}
 use Rattle.col_eval.proofs.GatherLemmas.{row_step}
 use Rattle.col_eval.proofs.OperandLemmas.{typed_parts}
 use Rattle.col_eval.proofs.RefusalLemmas.{IsGatheredFrom-gathered}
-
--- a step with an entry takes and gives whole numbers of 64 bits
-entry_of-int64 : (op : Op) (s t u : DataKind) → entry_of op s t ≡ Ok u
-    → (s ≡ kind.int64) × (t ≡ kind.int64) × (u ≡ kind.int64)
-entry_of-int64 op kind.int64 kind.int64 u h = (refl, refl, cc)
-entry_of-int64 op _ _ u h = absurd cc
-
--- the cell of a step with an entry
-entry_cell : (op : Op) (s t u : DataKind) (a b c : Cell) → entry_of op s t ≡ Ok u
-    → step_of op (Ok s) (Ok t) a b ≡ Ok c → is_cell_of u c ≡ true
-entry_cell op s t u a b c h g =
-    let parts = entry_of-int64 op s t u h in
-    let cells = rw parts.0 at g in
-    elim (typed_step (operation_of op) (form_of op) _ a b c cells) [
-      | inl is_null ↦ rw is_null refl
-      | inr fits ↦ rw (parts.2, fits.1.0) fits.1.1
-    ]
+use Rattle.col_eval.proofs.RuleLemmas.{entry_cell-type}
 
 -- the cell of a step with a type
-typed_cell : (op : Op) (s t : Result DataKind Error) (u : DataKind) (a b c : Cell)
-    → step_type op s t ≡ Ok u → step_of op s t a b ≡ Ok c → is_cell_of u c ≡ true
-typed_cell op (Ok s) (Ok t) u a b c h g = entry_cell op s t u a b c h g
-typed_cell op (Ok s) (Err e) u a b c h g = absurd cc
-typed_cell op (Err e) t u a b c h g = absurd cc
+typed_cell : (op : Op) (is_literal : Bool) (s t : Result DataKind Error) (u : DataKind)
+    (a b c : Cell) → step_type op is_literal s t ≡ Ok u → step_of op s t a b ≡ Ok c
+    → is_cell_of u c ≡ true
+typed_cell op is_literal (Ok s) (Ok t) u a b c h g = entry_cell-type op is_literal s t u a b c h g
+typed_cell op is_literal (Ok s) (Err e) u a b c h g = absurd cc
+typed_cell op is_literal (Err e) t u a b c h g = absurd cc
 
 -- the cell that the step itself gives
 at_step-cell : (number : ℕ) (r : Result Cell Cause) (c : Cell) → at_step number r ≡ cell c
@@ -103,7 +86,7 @@ row_cell (step op left right) table row t c held typed h =
     let cells = step_cell (step_count left) (step_count right) (step_of op s u)
     (row_meaning left types (row_at table row)) (row_meaning right types (row_at table row))
     c h in
-    typed_cell op s u t cells.0 cells.1 c typed cells.2
+    typed_cell op (is_literal right) s u t cells.0 cells.1 c typed cells.2
 
 -- where each row's cell passes, all pass
 all_pass : {X : Type 0} (f : X → RowAnswer) (p : Cell → Bool) (xs : List X) (cells : List Cell)

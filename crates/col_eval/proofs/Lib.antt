@@ -1,7 +1,10 @@
 pub mod GatherLemmas
 pub mod CellOfLemmas
+pub mod NegationLemmas
 pub mod OperandLemmas
 pub mod RefusalLemmas
 pub mod RowLemmas
+pub mod RuleLemmas
+pub mod SplitLemmas
 pub mod StepLemmas
 pub mod TreeLemmas

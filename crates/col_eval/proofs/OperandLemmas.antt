@@ -1,33 +1,34 @@
 -- What the operands of a step and the step give for a table.
-use Rattle.std.proofs.Common.{◌≡◌, ℕ, zero, suc, ◌+◌, true, ◌==◌, List, [], ◌∷◌, map, length}
-use Rattle.std.proofs.Common.{replicate, slice_get, slice_index_or, Option, None, Some, option_map}
-use Rattle.std.proofs.Common.{Result, Ok, Err, IsOk, IsTrue, refl, sym, ap, ◌∙◌, eqb-true, eq-eqb}
+use Rattle.std.proofs.Common.{◌≡◌, ℕ, zero, suc, ◌+◌, Bool, true, false, not, ◌&&◌, ◌==◌, cond}
+use Rattle.std.proofs.Common.{List, [], ◌∷◌, map, length, replicate, slice_get, slice_index_or}
+use Rattle.std.proofs.Common.{Option, None, Some, option_map, Result, Ok, Err, IsOk, IsTrue, refl}
+use Rattle.std.proofs.Common.{sym, ap, ◌∙◌, eqb-true, eq-eqb}
 use Rattle.std.specs.List.{list_all, range_with_len}
 use Rattle.std.proofs.lemmas.Bool.{and_parts}
 use Rattle.std.proofs.lemmas.List.{length-map}
 use Rattle.std.proofs.lemmas.List.FromFn.{fill_by_all, length-range_with_len}
 use Rattle.std.proofs.lemmas.Option.{slice_get-map, get_or_from_slice_get}
 use Rattle.std.proofs.lemmas.Simd.{map-map, splat_is_map}
-use Rattle.col_model.specs.Cell.{Cell, null, whole, Cause}
+use Rattle.col_model.specs.Cell.{Cell, null, Cause}
 use Rattle.col_model.specs.WholeStep.{each_row}
 use Rattle.col_types.specs.Answer.{error_of}
 use Rattle.col_types.specs.Column.{Column, column_answer, is_table, kernel_answer, row_at}
-use Rattle.col_types.specs.Column.{row_count, scalar_answer, table_row_count, types_of}
+use Rattle.col_types.specs.Column.{row_count, table_row_count, types_of}
 use Rattle.col_types.specs.DataKind.{DataKind}
-use Rattle.col_types.specs.DataKind as kind
-use Rattle.col_types.specs.DataType.{whole_type_of}
-use Rattle.col_model.specs.Whole.{WholeType}
 use Rattle.col_types.specs.declared.error.Error.{Error}
+use Rattle.col_types.specs.declared.error.Error.TheVariants.{NotYetImplemented}
 use Rattle.col_eval.specs.declared.expr.Op.{Op}
-use Rattle.col_eval.specs.Entries.{entry_of}
+use Rattle.col_eval.specs.Entries.{Entry, entry_cell, entry_of, entry_type}
+use Rattle.col_eval.specs.Steps.{constant_column, entry_answer, retyped, scalar_step_answer}
+use Rattle.col_eval.specs.Steps.{step_answer, with_type}
 use Rattle.col_eval.specs.Tree.{Tree, column, literal, step, step_count}
-use Rattle.col_eval.specs.Typing.{right_type, type_of}
+use Rattle.col_eval.specs.Typing.{is_literal, right_type, type_of}
 use Rattle.col_eval.specs.Meaning.{cell, RowsAnswer, all_cells, refusal, row_meaning, rows_of}
-use Rattle.col_eval.specs.Meaning.{step_of, typed_rows, typed_step}
-use Rattle.col_eval.specs.Meaning.{rows_meaning}
+use Rattle.col_eval.specs.Meaning.{step_of, typed_rows, rows_meaning}
 use Rattle.col_eval.specs.Operand.{operand_outcome}
 use Rattle.col_eval.proofs.GatherLemmas.{at_rows, gathered-cells, gathered-row_step, rows_step}
 use Rattle.col_eval.proofs.RefusalLemmas.{IsGatheredFrom-gathered}
+use Rattle.col_eval.proofs.RuleLemmas.{row_count-constant}
 use Rattle.col_eval.proofs.TreeLemmas.{IsBelow-row_meaning, IsOk-left, IsOk-right}
 
 -- a column of a table has the table's rows
@@ -51,6 +52,13 @@ row_at-column table position c row h =
     (slice_get-map (λ d. slice_index_or d.cells row null) table position
     ∙ ap (option_map (λ d. slice_index_or d.cells row null)) h))
 
+-- a column gives a cell for each row
+pub rows_meaning-column : (position : ℕ) (table : List Column)
+    → rows_meaning (column position) table ≡ all_cells
+    (map (λ row. slice_index_or row position null) (rows_of table))
+rows_meaning-column position table =
+    gathered-cells (λ row. slice_index_or row position null) (rows_of table)
+
 -- a column of the table gives its cells
 pub operand_outcome-column : (table : List Column) (position : ℕ) (c : Column)
     → IsTrue (is_table table) → slice_get table position ≡ Some c
@@ -63,7 +71,7 @@ operand_outcome-column table position c h g =
     (length-column count table position c h g)
     (λ row below. row_at-column table position c row g) in
     let all : rows_meaning (column position) table ≡ all_cells c.cells =
-    gathered-cells (λ row. slice_index_or row position null) (rows_of table)
+    rows_meaning-column position table
     ∙ ap all_cells (map-map (λ row. slice_index_or row position null) (row_at table)
     (range_with_len 0 count) ∙ sym cells) in
     let type : slice_get (types_of table) position ≡ Some c.data_type =
@@ -82,7 +90,7 @@ length-rows_meaning tree table cells h =
     ∙ length-range_with_len 0 (table_row_count table)
 
 -- a literal gives its cell at each row
-rows_meaning-literal : (t : DataKind) (c : Cell) (table : List Column) (count : ℕ)
+pub rows_meaning-literal : (t : DataKind) (c : Cell) (table : List Column) (count : ℕ)
     → count ≡ table_row_count table
     → rows_meaning (literal t c) table ≡ all_cells (replicate count c)
 rows_meaning-literal t c table count h =
@@ -114,21 +122,6 @@ typed_rows-refusal : (t : Result DataKind Error) (k : ℕ) (cause : Cause) → I
 typed_rows-refusal (Ok t) k cause h = refl
 typed_rows-refusal (Err e) k cause h = absurd cc
 
--- a step has its left operand's type
-entry_of-left : (op : Op) (s t : DataKind) → IsOk (entry_of op s t) → entry_of op s t ≡ Ok s
-entry_of-left op kind.int64 kind.int64 h = refl
-entry_of-left op _ _ h = absurd cc
-
--- a step with a type has an entry for the types of its operands
-pub entry_of-operands : (op : Op) (left right : Tree) (t : DataKind) (table : List Column)
-    (l : Column) → IsOk (type_of (step op left right) (types_of table))
-    → operand_outcome left table ≡ Ok l
-    → right_type right (type_of right (types_of table)) ≡ Ok t
-    → IsOk (entry_of op l.data_type t)
-entry_of-operands op left right t table l typed h right_typed =
-    let parts = typed_parts (type_of left (types_of table)) (rows_meaning left table) l h in
-    rw (parts.0, right_typed) at typed
-
 -- what all rows give of a step with a type, as a column
 typed_rows-at_rows : (t : DataKind) (number : ℕ) (r : Result (List Cell) Cause)
     → typed_rows (Ok t) (at_rows number r) ≡ column_answer t r
@@ -136,7 +129,7 @@ typed_rows-at_rows t number (Ok cells) = refl
 typed_rows-at_rows t number (Err cause) = refl
 
 -- all rows after a step
-rows_meaning-step : (op : Op) (left right : Tree) (table : List Column)
+pub rows_meaning-step : (op : Op) (left right : Tree) (table : List Column)
     → rows_meaning (step op left right) table ≡ rows_step (step_count left) (step_count right)
     (step_of op (type_of left (types_of table)) (right_type right (type_of right (types_of table))))
     (rows_meaning left table) (rows_meaning right table)
@@ -147,63 +140,78 @@ rows_meaning-step op left right table =
     (row_meaning left types) (row_meaning right types) (rows_of table)
     (IsBelow-row_meaning left types) (IsBelow-row_meaning right types)
 
--- a step on two operands that are columns
-pub operand_outcome-step : (op : Op) (left right : Tree) (table : List Column) (l r : Column)
-    → IsOk (type_of (step op left right) (types_of table)) → operand_outcome left table ≡ Ok l
-    → right_type right (type_of right (types_of table)) ≡ Ok r.data_type
-    → rows_meaning right table ≡ all_cells r.cells
-    → operand_outcome (step op left right) table ≡ column_answer l.data_type
-    (each_row (step_of op (Ok l.data_type) (Ok r.data_type)) l.cells r.cells)
-operand_outcome-step op left right table l r typed h right_typed right_cells =
-    let parts = typed_parts (type_of left (types_of table)) (rows_meaning left table) l h in
-    let entry : entry_of op l.data_type r.data_type ≡ Ok l.data_type =
-    entry_of-left op l.data_type r.data_type (rw (parts.0, right_typed) at typed) in
-    rw (rows_meaning-step op left right table, parts.0, parts.1, right_typed, right_cells, entry)
-    (typed_rows-at_rows l.data_type (step_count left + step_count right)
-    (each_row (step_of op (Ok l.data_type) (Ok r.data_type)) l.cells r.cells))
-
 -- a kernel's answer for two columns of one length
 kernel_answer-one_length : (s : Cell → Cell → Result Cell Cause) (l r : Column)
     → row_count l ≡ row_count r
     → kernel_answer s l r ≡ column_answer l.data_type (each_row s l.cells r.cells)
 kernel_answer-one_length s l r h = let e = eq-eqb (row_count l) (row_count r) h in rw e refl
 
--- a step on two columns is what its kernel answers
+-- a step with a type on two columns of one length is what its row of the table says
+typed_rows-chosen : (b : Bool) (t : Result DataKind Error) (s : Cell → Cell → Result Cell Cause)
+    (number : ℕ) (l r : Column) → IsOk (cond b (Err NotYetImplemented) t)
+    → row_count l ≡ row_count r
+    → typed_rows (cond b (Err NotYetImplemented) t)
+    (at_rows number (each_row s l.cells r.cells))
+    ≡ with_type t (λ u. kernel_answer s (retyped l u) r)
+typed_rows-chosen true t s number l r h g = absurd cc
+typed_rows-chosen false (Ok u) s number l r h g =
+    typed_rows-at_rows u number (each_row s l.cells r.cells)
+    ∙ sym (kernel_answer-one_length s (retyped l u) r g)
+typed_rows-chosen false (Err e) s number l r h g = absurd cc
+
+-- the same by the row itself
+entry_answer-rows : (b : Bool) (entry : Option Entry) (number : ℕ) (l r : Column)
+    → IsOk (entry_type b entry) → row_count l ≡ row_count r
+    → typed_rows (entry_type b entry)
+    (at_rows number (each_row (entry_cell entry) l.cells r.cells)) ≡ entry_answer entry l r
+entry_answer-rows b None number l r h g = absurd cc
+entry_answer-rows b (Some entry) number l r h g =
+    typed_rows-chosen (b && not entry.takes_literal) entry.answer_type entry.step number l r h g
+
+-- a step on two operands that are columns
+operand_outcome-step : (op : Op) (left right : Tree) (table : List Column) (l r : Column)
+    → IsOk (type_of (step op left right) (types_of table)) → operand_outcome left table ≡ Ok l
+    → right_type right (type_of right (types_of table)) ≡ Ok r.data_type
+    → rows_meaning right table ≡ all_cells r.cells → row_count l ≡ row_count r
+    → operand_outcome (step op left right) table ≡ step_answer op l r
+operand_outcome-step op left right table l r typed h right_typed right_cells one_length =
+    let parts = typed_parts (type_of left (types_of table)) (rows_meaning left table) l h in
+    let entry_typed = rw (parts.0, right_typed) at typed in
+    rw (rows_meaning-step op left right table, parts.0, parts.1, right_typed, right_cells)
+    (entry_answer-rows (is_literal right) (entry_of op l.data_type r.data_type)
+    (step_count left + step_count right) l r entry_typed one_length)
+
+-- a step on two columns is what its row of the table answers
 pub operand_outcome-columns : (op : Op) (left right : Tree) (table : List Column) (l r : Column)
     → IsOk (type_of (step op left right) (types_of table))
     → right_type right (type_of right (types_of table)) ≡ type_of right (types_of table)
     → operand_outcome left table ≡ Ok l → operand_outcome right table ≡ Ok r
-    → operand_outcome (step op left right) table ≡ kernel_answer
-    (step_of op (Ok l.data_type) (Ok r.data_type)) l r
+    → operand_outcome (step op left right) table ≡ step_answer op l r
 operand_outcome-columns op left right table l r typed own hl hr =
     let left_parts = typed_parts (type_of left (types_of table)) (rows_meaning left table) l hl in
     let right_parts = typed_parts (type_of right (types_of table)) (rows_meaning right table) r hr
     in
-    let one_length : row_count l ≡ row_count r = length-rows_meaning left table l.cells left_parts.1
-    ∙ sym (length-rows_meaning right table r.cells right_parts.1) in
     operand_outcome-step op left right table l r typed hl (own ∙ right_parts.0) right_parts.1
-    ∙ sym (kernel_answer-one_length
-    (step_of op (Ok l.data_type) (Ok r.data_type)) l r one_length)
+    (length-rows_meaning left table l.cells left_parts.1
+    ∙ sym (length-rows_meaning right table r.cells right_parts.1))
 
--- a step on a column and a literal is what its kernel answers for a scalar
+-- a step on a column and a literal is what its row of the table answers
 pub operand_outcome-scalar : (op : Op) (left : Tree) (t : DataKind) (c : Cell) (table : List Column)
     (l : Column) → IsOk (type_of (step op left (literal t c)) (types_of table))
     → operand_outcome left table ≡ Ok l
-    → operand_outcome (step op left (literal t c)) table ≡ scalar_answer
-    (step_of op (Ok l.data_type) (Ok t)) l c
+    → operand_outcome (step op left (literal t c)) table ≡ scalar_step_answer op l t c
 operand_outcome-scalar op left t c table l typed hl =
     let left_parts = typed_parts (type_of left (types_of table)) (rows_meaning left table) l hl in
-    operand_outcome-step op left (literal t c) table l
-    (record { data_type = t; cells = replicate (row_count l) c }) typed hl refl
+    operand_outcome-step op left (literal t c) table l (constant_column t c l) typed hl refl
     (rows_meaning-literal t c table (row_count l)
-    (length-rows_meaning left table l.cells left_parts.1))
+    (length-rows_meaning left table l.cells left_parts.1)) (row_count-constant t c l)
 
 -- a refusal of the left operand is the step's
 pub operand_outcome-left : (op : Op) (left right : Tree) (table : List Column) (e : Error)
     → IsOk (type_of (step op left right) (types_of table)) → operand_outcome left table ≡ Err e
     → operand_outcome (step op left right) table ≡ Err e
 operand_outcome-left op left right table e typed h =
-    let own = IsOk-left op (type_of left (types_of table))
+    let own = IsOk-left op (is_literal right) (type_of left (types_of table))
     (right_type right (type_of right (types_of table))) typed in
     let refused = typed_refusal (type_of left (types_of table)) (rows_meaning left table) e own h in
     rw (rows_meaning-step op left right table, refused.2)
@@ -219,30 +227,10 @@ pub operand_outcome-right : (op : Op) (left right : Tree) (table : List Column) 
 operand_outcome-right op left right table l e typed own hl h =
     let left_parts = typed_parts (type_of left (types_of table)) (rows_meaning left table) l hl in
     let right_typed : IsOk (type_of right (types_of table)) =
-    rw own at (IsOk-right op (type_of left (types_of table))
+    rw own at (IsOk-right op (is_literal right) (type_of left (types_of table))
     (right_type right (type_of right (types_of table))) typed) in
     let refused = typed_refusal (type_of right (types_of table))
     (rows_meaning right table) e right_typed h in
     rw (rows_meaning-step op left right table, left_parts.1, refused.2)
     (typed_rows-refusal (type_of (step op left right) (types_of table))
     (step_count left + refused.0) refused.1 typed ∙ ap Err refused.3)
-
--- a step beside a null gives null
-typed_step-null : (op : Op) (t : Option WholeType) (a : Cell) → typed_step op t a null ≡ Ok null
-typed_step-null op None a = refl
-typed_step-null op (Some t) (whole n) = refl
-typed_step-null op (Some t) _ = refl
-
--- each row is null beside a null
-each_row-null : (op : Op) (s t : DataKind) (cells : List Cell)
-    → each_row (step_of op (Ok s) (Ok t)) cells (replicate (length cells) null) ≡ Ok
-    (replicate (length cells) null)
-each_row-null op s t [] = refl
-each_row-null op s t (c ∷ cells) =
-    rw (typed_step-null op (whole_type_of s) c, each_row-null op s t cells) refl
-
--- a step on a column and a null gives nulls
-pub scalar_answer-null : (op : Op) (s t : DataKind) (l : Column)
-    → scalar_answer (step_of op (Ok s) (Ok t)) l null ≡ Ok
-    (record { data_type = l.data_type; cells = replicate (row_count l) null })
-scalar_answer-null op s t l = rw (each_row-null op s t l.cells) refl

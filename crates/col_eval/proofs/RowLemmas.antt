@@ -1,17 +1,32 @@
 -- The cell of an outcome at a row is what the tree means for that row.
-use Rattle.std.proofs.Common.{◌≡◌, ℕ, ◌+◌, ◌<◌, List, map, slice_get, Option, Some, None}
-use Rattle.std.proofs.Common.{option_map, Ok, sym, ap, ◌∙◌, arith}
+use Rattle.std.proofs.Common.{◌≡◌, ◌≢◌, ℕ, ◌+◌, ◌<◌, inl, inr, List, length, map, slice_get}
+use Rattle.std.proofs.Common.{Option, Some, None, option_map, Result, Ok, Err, IsOk, refl, sym, ap, ◌∙◌}
+use Rattle.std.proofs.Common.{arith}
 use Rattle.std.specs.List.{range_with_len}
 use Rattle.std.proofs.lemmas.List.FromFn.{get_or-range_with_len, length-range_with_len}
-use Rattle.std.proofs.lemmas.Option.{slice_get-get_or, slice_get-map}
-use Rattle.col_model.specs.Cell.{Cell}
+use Rattle.std.proofs.lemmas.Bool.{cases_lt}
+use Rattle.std.proofs.lemmas.List.{length-map}
+use Rattle.std.proofs.lemmas.Option.{slice_get-get_or, slice_get-map, slice_get_past}
+use Rattle.col_model.specs.Cell.{Cell, Cause}
 use Rattle.col_types.specs.Column.{Column, row_at, table_row_count, types_of}
+use Rattle.col_types.specs.DataKind.{DataKind}
+use Rattle.col_types.specs.declared.error.Error.{Error}
 use Rattle.col_eval.specs.Tree.{Tree}
 use Rattle.col_eval.specs.Typing.{typing_of}
-use Rattle.col_eval.specs.Meaning.{RowAnswer, cell, row_meaning, rows_of, outcome_of}
-use Rattle.col_eval.specs.Meaning.{rows_meaning}
+use Rattle.col_eval.specs.Meaning.{RowAnswer, cell, refused_at, row_meaning, rows_of, outcome_of}
+use Rattle.col_eval.specs.Meaning.{RowsAnswer, all_cells, refusal, gathered, rows_meaning}
+use Rattle.col_eval.specs.Meaning.{typed_rows}
+use Rattle.col_eval.specs.Laws.{IsGatheredFrom}
 use Rattle.col_eval.proofs.OperandLemmas.{typed_parts}
 use Rattle.col_eval.proofs.RefusalLemmas.{IsGatheredFrom-gathered}
+
+-- one value that is there
+some_same : {X : Type 0} {x y : X} → Some x ≡ Some y → x ≡ y
+some_same h = cc
+
+-- nothing is not something
+none_some : {X : Type 0} {x : X} → None ≡ Some x → ⊥
+none_some h = cc
 
 -- the rows are numbered from 0
 slice_get-range_with_len : (count row : ℕ) → row < count
@@ -61,3 +76,46 @@ equal_rows tree table other answer other_answer row other_row types h g below ot
     same_cells (slice_get answer.cells row) (slice_get other_answer.cells other_row)
     (cell_at_row tree table answer row h below
     ∙ rw (types, cells) (sym (cell_at_row tree other other_answer other_row g other_below)))
+
+-- a table has so many rows
+pub length-rows_of : (table : List Column) → length (rows_of table) ≡ table_row_count table
+length-rows_of table =
+    length-map (range_with_len 0 (table_row_count table)) (row_at table)
+    ∙ length-range_with_len 0 (table_row_count table)
+
+-- a row that is refused is a row of the table
+refused_row : (tree : Tree) (table : List Column) (row number : ℕ) (cause : Cause)
+    → slice_get (map (row_meaning tree (types_of table)) (rows_of table)) row ≡ Some
+    (refused_at number cause)
+    → (row < table_row_count table)
+    × (row_meaning tree (types_of table) (row_at table row) ≡ refused_at number cause)
+refused_row tree table row number cause h =
+    let types = types_of table in
+    let moved = sym (slice_get-map (row_meaning tree types) (rows_of table) row) ∙ h in
+    elim (cases_lt row (table_row_count table)) [
+      | inl below ↦ (below, some_same (rw (slice_get-rows_of table row below) at moved))
+      | inr past ↦ absurd (none_some (rw (slice_get_past (rows_of table) row
+          (rw (length-rows_of table) past)) at moved))
+    ]
+
+-- rows of which none is refused give cells
+unrefused_rows : (rows : List RowAnswer) (all : RowsAnswer) (t : Result DataKind Error) → IsOk t
+    → IsGatheredFrom rows all
+    → ((row number : ℕ) (cause : Cause) → slice_get rows row ≢ Some (refused_at number cause))
+    → IsOk (typed_rows t all)
+unrefused_rows rows all (Err e) typed g h = absurd cc
+unrefused_rows rows (all_cells cells) (Ok t) typed g h = refl
+unrefused_rows rows (refusal number cause) (Ok t) typed g h =
+    absurd (h g.row number cause g.refuses)
+
+-- a tree with a type, and a table of which it refuses no row, give a column
+pub unrefused_column : (tree : Tree) (table : List Column) → IsOk (typing_of tree (types_of table))
+    → ((row number : ℕ) (cause : Cause) → row < table_row_count table
+    → row_meaning tree (types_of table) (row_at table row) ≢ refused_at number cause)
+    → IsOk (outcome_of tree table)
+unrefused_column tree table typed h =
+    let rows = map (row_meaning tree (types_of table)) (rows_of table) in
+    unrefused_rows rows (gathered rows) (typing_of tree (types_of table)) typed
+    (IsGatheredFrom-gathered rows)
+    (λ row number cause refused. let r = refused_row tree table row number cause refused in
+    h row number cause r.0 r.1)

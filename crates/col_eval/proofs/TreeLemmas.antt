@@ -1,5 +1,6 @@
 -- Facts on trees: their levels, their types, and which steps refuse a row.
-use Rattle.std.proofs.Common.{◌≡◌, ◌≢◌, ℕ, ◌+◌, ◌≤◌, List, Result, Ok, Err, IsOk, refl, arith}
+use Rattle.std.proofs.Common.{◌≡◌, ◌≢◌, ℕ, ◌+◌, ◌≤◌, Bool, false, List, Result, Ok, Err, IsOk}
+use Rattle.std.proofs.Common.{refl, arith}
 use Rattle.col_model.specs.Cell.{Cell, Cause}
 use Rattle.col_types.specs.DataKind.{DataKind}
 use Rattle.col_types.specs.declared.error.Error.{Error}
@@ -7,7 +8,7 @@ use Rattle.col_array.specs.declared.any_scalar.AnyScalar.{AnyScalar}
 use Rattle.col_eval.specs.declared.expr.Op.{Op}
 use Rattle.col_eval.specs.declared.expr.Expr.{Expr, Column, Literal, Step'}
 use Rattle.col_eval.specs.Tree.{Tree, column, literal, step, level_count, step_count, tree_of}
-use Rattle.col_eval.specs.Typing.{right_type, step_type}
+use Rattle.col_eval.specs.Typing.{is_literal, right_type, step_type}
 use Rattle.col_eval.specs.Meaning.{RowAnswer, cell, refused_at, at_step, row_meaning}
 use Rattle.col_eval.proofs.GatherLemmas.{IsBelow, row_step}
 
@@ -46,14 +47,23 @@ right_type-own (Column position) own h = refl
 right_type-own (Literal scalar) own h = absurd (h scalar refl)
 right_type-own (Step' op p left q right) own h = refl
 
+-- and it is no literal
+pub is_literal-other : (e : Expr) → ((s : AnyScalar) → e ≢ Literal s)
+    → is_literal (tree_of e) ≡ false
+is_literal-other (Column position) h = refl
+is_literal-other (Literal scalar) h = absurd (h scalar refl)
+is_literal-other (Step' op p left q right) h = refl
+
 -- a step that has a type has a left operand with a type
-pub IsOk-left : (op : Op) (s t : Result DataKind Error) → IsOk (step_type op s t) → IsOk s
-IsOk-left op (Ok s) t h = refl
-IsOk-left op (Err e) t h = h
+pub IsOk-left : (op : Op) (b : Bool) (s t : Result DataKind Error) → IsOk (step_type op b s t)
+    → IsOk s
+IsOk-left op b (Ok s) t h = refl
+IsOk-left op b (Err e) t h = h
 
 -- and a right operand with a type
-pub IsOk-right : (op : Op) (s t : Result DataKind Error) → IsOk (step_type op s t) → IsOk t
-IsOk-right op (Ok s) (Ok t) h = refl
-IsOk-right op (Ok s) (Err e) h = h
-IsOk-right op (Err e) (Ok t) h = refl
-IsOk-right op (Err e) (Err d) h = h
+pub IsOk-right : (op : Op) (b : Bool) (s t : Result DataKind Error) → IsOk (step_type op b s t)
+    → IsOk t
+IsOk-right op b (Ok s) (Ok t) h = refl
+IsOk-right op b (Ok s) (Err e) h = h
+IsOk-right op b (Err e) (Ok t) h = refl
+IsOk-right op b (Err e) (Err d) h = h

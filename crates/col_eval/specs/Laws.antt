@@ -1,5 +1,5 @@
 -- What the definitions of this crate say together.
-use Rattle.std.specs.Prelude.{◌≡◌, ℕ, ◌<◌, ◌≤◌, ◌⊎◌, IsTrue, List, [], ◌∷◌, ◌++◌, length, map}
+use Rattle.std.specs.Prelude.{◌≡◌, ◌≢◌, ℕ, ◌<◌, ◌≤◌, ◌⊎◌, IsTrue, IsOk, List, [], ◌∷◌, ◌++◌, length, map}
 use Rattle.std.specs.Prelude.{slice_get, Some, Ok, Err}
 use Rattle.std.specs.List.{All, list_all}
 use Rattle.col_model.specs.Cell.{Cell, Cause}
@@ -8,9 +8,11 @@ use Rattle.col_types.specs.Column.{Column, row_at, table_row_count, types_of}
 use Rattle.col_types.specs.DataKind.{DataKind}
 use Rattle.col_eval.specs.declared.expr.Op.{Op}
 use Rattle.col_eval.specs.Tree.{Tree, column, literal, step}
-use Rattle.col_eval.specs.Typing.{right_type, type_of}
+use Rattle.col_eval.specs.Typing.{right_type, type_of, typing_of}
 use Rattle.col_eval.specs.Meaning.{RowAnswer, cell, refused_at, row_meaning, step_of}
 use Rattle.col_eval.specs.Meaning.{RowsAnswer, all_cells, refusal, gathered, outcome_of}
+use Rattle.col_eval.specs.Meaning.{rows_meaning, typed_rows}
+use Rattle.col_eval.specs.Split.{AreParts, joined, stacked}
 
 -- a refusal at a step and row is no later than another: its step is less, or the same and its row
 -- is not lower
@@ -70,24 +72,46 @@ pub record RefusesItself (types : List DataKind) (row : List Cell) (cause : Caus
   pub refuses : step_of op (type_of left types) (right_type right (type_of right types)) a b
       ≡ Err cause
 
--- a row is refused at a step of a tree: so many steps come before it, each gives a cell for the
--- row, and this one refuses the row itself
-pub record IsRefusedAtStep (types : List DataKind) (row : List Cell) (number : ℕ) (cause : Cause)
-    (tree : Tree) : Type 0 where
+-- the first step of a tree that fails: so many steps come before it in their order, and pass
+pub record IsFirstToFail (Passes Fails : Tree → Type 0) (number : ℕ) (tree : Tree) : Type 0 where
   pub earlier : List Tree
-  pub refusing : Tree
+  pub failing : Tree
   pub later : List Tree
-  pub in_order : steps_in_order tree ≡ earlier ++ (refusing ∷ later)
+  pub in_order : steps_in_order tree ≡ earlier ++ (failing ∷ later)
   pub counted : length earlier ≡ number
-  pub earlier_give_cells : All (GivesCell types row) earlier
-  pub refuses : RefusesItself types row cause refusing
+  pub earlier_pass : All Passes earlier
+  pub fails : Fails failing
 
 -- the number of a refusal is the place of the step that refuses, and no earlier step refuses
 abbrev pub RefusalNamesItsStep : Type 0
 RefusalNamesItsStep =
     (tree : Tree) (types : List DataKind) (row : List Cell) (number : ℕ) (cause : Cause)
     → row_meaning tree types row ≡ refused_at number cause
-    → IsRefusedAtStep types row number cause tree
+    → IsFirstToFail (GivesCell types row) (RefusesItself types row cause) number tree
+
+-- a tree gives a cell for each row of a table
+abbrev pub GivesCells : List Column → Tree → Type 0
+GivesCells table tree = (cells : List Cell) × (rows_meaning tree table ≡ all_cells cells)
+
+-- a table is refused for a cause by a tree
+abbrev pub IsRefusedFor : List Column → Cause → Tree → Type 0
+IsRefusedFor table cause tree = (number : ℕ) × (rows_meaning tree table ≡ refusal number cause)
+
+-- the number of a table's refusal is the place of the first step that, as a tree of its own, is
+-- refused for the table, and the cause is the same
+abbrev pub TableRefusalIsOfItsFirstStep : Type 0
+TableRefusalIsOfItsFirstStep =
+    (tree : Tree) (table : List Column) (number : ℕ) (cause : Cause)
+    → rows_meaning tree table ≡ refusal number cause
+    → IsFirstToFail (GivesCells table) (IsRefusedFor table cause) number tree
+
+-- a tree with a type, and a table of which it refuses no row, give a column
+abbrev pub UnrefusedTablesHaveColumns : Type 0
+UnrefusedTablesHaveColumns =
+    (tree : Tree) (table : List Column) → IsOk (typing_of tree (types_of table))
+    → ((row number : ℕ) (cause : Cause) → row < table_row_count table
+    → row_meaning tree (types_of table) (row_at table row) ≢ refused_at number cause)
+    → IsOk (outcome_of tree table)
 
 -- where each column of a table holds cells of its type, so does the outcome
 abbrev pub OutcomeHoldsItsCells : Type 0
@@ -95,3 +119,10 @@ OutcomeHoldsItsCells =
     (tree : Tree) (table : List Column) (answer : Column)
     → IsTrue (list_all is_typed_column table) → outcome_of tree table ≡ Ok answer
     → HoldsItsCells answer
+
+-- what a tree gives for a table in two parts is what it gives for each of them, joined
+abbrev pub OutcomesOfPartsJoin : Type 0
+OutcomesOfPartsJoin =
+    (tree : Tree) (upper lower : List Column) → AreParts upper lower
+    → outcome_of tree (stacked upper lower) ≡ typed_rows (typing_of tree (types_of upper))
+    (joined (rows_meaning tree upper) (rows_meaning tree lower))

@@ -4,7 +4,10 @@ pub use Rattle.col_types.specs.Column
 pub use Rattle.col_array.specs.Any
 pub mod Tree
 pub mod Entries
+pub mod Negation
+pub mod Steps
 pub mod Typing
 pub mod Meaning
 pub mod Operand
+pub mod Split
 pub mod Laws

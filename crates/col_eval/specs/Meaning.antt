@@ -1,17 +1,14 @@
 -- What a tree gives for one row, and for a table.
 use Rattle.std.specs.Prelude.{ℕ, ◌+◌, nat_le, if◌then◌else◌, List, [], ◌∷◌, map, slice_index_or}
-use Rattle.std.specs.Prelude.{Result, Ok, Err, Option, Some, None}
+use Rattle.std.specs.Prelude.{Result, Ok, Err}
 use Rattle.std.specs.List.{range_with_len}
 use Rattle.col_model.specs.Cell.{Cell, null, Cause}
-use Rattle.col_model.specs.Whole.{WholeType}
-use Rattle.col_model.specs.WholeStep.{whole_step}
 use Rattle.col_types.specs.Answer.{error_of}
 use Rattle.col_types.specs.Column.{Column, row_at, table_row_count, types_of}
-use Rattle.col_types.specs.DataType.{whole_type_of}
 use Rattle.col_types.specs.DataKind.{DataKind}
 use Rattle.col_types.specs.declared.error.Error.{Error}
 use Rattle.col_eval.specs.declared.expr.Op.{Op}
-use Rattle.col_eval.specs.Entries.{operation_of, form_of}
+use Rattle.col_eval.specs.Entries.{entry_cell, entry_of}
 use Rattle.col_eval.specs.Tree.{Tree, column, literal, step, step_count}
 use Rattle.col_eval.specs.Typing.{right_type, type_of, typing_of}
 
@@ -20,16 +17,11 @@ pub data RowAnswer : Type 0 where
   cell : Cell → RowAnswer
   refused_at : ℕ → Cause → RowAnswer
 
--- a step on two cells of whole numbers of a type; without such a type no row is asked
-abbrev pub typed_step : Op → Option WholeType → Cell → Cell → Result Cell Cause
-typed_step op (Some t) a b = whole_step (operation_of op) (form_of op) t a b
-typed_step op None a b = Ok null
-
 -- a step on two cells, by the types of its operands; an operand without a type leaves the tree
 -- without one, and then no row is asked
 abbrev pub step_of : Op → Result DataKind Error → Result DataKind Error → Cell → Cell
     → Result Cell Cause
-step_of op (Ok s) (Ok t) a b = typed_step op (whole_type_of s) a b
+step_of op (Ok s) (Ok t) a b = entry_cell (entry_of op s t) a b
 step_of op (Ok s) (Err e) a b = Ok null
 step_of op (Err e) t a b = Ok null
 

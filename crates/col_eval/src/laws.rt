@@ -1,6 +1,8 @@
 //! What the definitions say together, each law as a function that does nothing.
 ghost use Rattle.col_eval.specs.Laws.{OutcomeDependsOnCellsAlone, OutcomeHoldsItsCells};
-ghost use Rattle.col_eval.specs.Laws.{OutcomeIsTheLeastRefusal, RefusalNamesItsStep};
+ghost use Rattle.col_eval.specs.Laws.{OutcomeIsTheLeastRefusal, OutcomesOfPartsJoin};
+ghost use Rattle.col_eval.specs.Laws.{RefusalNamesItsStep, TableRefusalIsOfItsFirstStep};
+ghost use Rattle.col_eval.specs.Laws.{UnrefusedTablesHaveColumns};
 
 /// A table's outcome is the refusal of the least step, and of those of one step that of the least
 /// row; without a refusal it has the cell of each row, in their order.
@@ -22,4 +24,23 @@ pub fn refusal_names_its_step()
 /// Where each column of a table holds cells of its type, so does what a tree gives for it.
 pub fn outcome_holds_its_cells()
     ensures { OutcomeHoldsItsCells }
+{}
+
+/// Over a table whose rows are those of an upper table and then those of a lower one, a tree gives
+/// the upper table's cells followed by the lower one's; else, of the refusals of both, the one at
+/// the lesser step, and at one step the upper table's.
+pub fn outcomes_of_parts_join()
+    ensures { OutcomesOfPartsJoin }
+{}
+
+/// The refusal of a table is that of the first of a tree's steps that, as a tree of its own, is
+/// refused for the table; its number is that step's place, and the cause is the same.
+pub fn table_refusal_is_of_its_first_step()
+    ensures { TableRefusalIsOfItsFirstStep }
+{}
+
+/// A tree that has a type, and refuses no row of a table, gives a column for it: so `evaluate`
+/// answers it, or want of memory.
+pub fn unrefused_tables_have_columns()
+    ensures { UnrefusedTablesHaveColumns }
 {}

@@ -3,10 +3,11 @@ ghost use Rattle.std.specs.Prelude.{◌≡◌, ◌≤◌, ◌↔◌, IsTrue};
 ghost use Rattle.col_types.specs.Answer.{Answers};
 ghost use Rattle.col_types.specs.Column.{types_of};
 ghost use Rattle.col_types.specs.DataKind.{kind_of};
-ghost use Rattle.col_eval.specs.Entries.{entry_of};
+ghost use Rattle.col_eval.specs.Entries.{entry_of, entry_type};
 ghost use Rattle.col_eval.specs.Tree.{level_count, tree_of};
 ghost use Rattle.col_eval.specs.Typing.{type_of, typing_of};
 
+use crate::entries::Rule;
 use crate::expr::{Expr, Op};
 use crate::table::Table;
 use col_types::{DataType, Error, Reason};
@@ -19,7 +20,8 @@ pub const MAX_LEVELS: usize = 256;
 ///
 /// Refused, in this order: `Depth` where the tree has more than 256 levels; then, left operand
 /// first, operands before their step: `Position` where the table has no such column;
-/// `NotYetImplemented` where a literal is no right operand of a step, or a step has no entry.
+/// `NotYetImplemented` where a literal is no right operand of a step, or a step does not take
+/// operands of these types.
 pub fn typed_of(alloc: Global, table: &Table, tree: &Expr) -> Result<DataType, Error>
     ensures answer { Answers kind_of result (typing_of (tree_of tree.now) (types_of table.now)) }
 {
@@ -58,21 +60,32 @@ fn type_within(alloc: Global, table: &Table, tree: &Expr) -> Result<DataType, Er
         Expr::Literal(_) => Err(Error::NotYetImplemented),
         Expr::Step(op, lhs, rhs) => {
             let lhs_type = type_within(alloc, table, lhs)?;
-            let rhs_type = match &**rhs {
-                Expr::Literal(scalar) => scalar.data_type().try_clone(alloc)?,
-                rhs => type_within(alloc, table, rhs)?,
-            };
-            entry(*op, &lhs_type, &rhs_type)
+            match &**rhs {
+                Expr::Literal(scalar) => step_type(alloc, *op, &lhs_type, scalar.data_type(), true),
+                rhs => {
+                    let rhs_type = type_within(alloc, table, rhs)?;
+                    step_type(alloc, *op, &lhs_type, &rhs_type, false)
+                }
+            }
         }
     }
 }
 
-// The type that a step gives for the types of its operands.
-fn entry(_op: Op, lhs: &DataType, rhs: &DataType) -> Result<DataType, Error>
-    ensures { Answers kind_of result (entry_of _op (kind_of lhs.now) (kind_of rhs.now)) }
+// The type that a step gives for the types of its operands, the right one a literal or not.
+fn step_type(
+    alloc: Global,
+    op: Op,
+    lhs: &DataType,
+    rhs: &DataType,
+    is_literal: bool,
+) -> Result<DataType, Error>
+    ensures { Answers kind_of result
+        (entry_type is_literal (entry_of op (kind_of lhs.now) (kind_of rhs.now))) }
 {
-    match (lhs, rhs) {
-        (DataType::Int64, DataType::Int64) => Ok(DataType::Int64),
+    match Rule::of(op, lhs, rhs) {
+        Some(rule) if !is_literal || rule.takes_literal(op) => {
+            rule.answer_type(alloc, op, lhs, rhs)
+        }
         _ => Err(Error::NotYetImplemented),
     }
 }

@@ -1,12 +1,12 @@
-use Rattle.std.proofs.Common.{◌∙◌, sym, refl}
+use Rattle.std.proofs.Common.{◌∙◌, sym}
 use Rattle.std.proofs.lemmas.Result.{err_from_is_err_and}
 use Rattle.col_array.specs.Any.{any_column, scalar_type, scalar_cell}
 use Rattle.col_eval.specs.Operand.{operand_column}
-use Rattle.col_eval.specs.Tree.{tree_of, literal}
+use Rattle.col_eval.specs.Tree.{tree_of}
 use Rattle.col_types.proofs.AnswerLemmas.{UnlessMemory-weaker}
 use Rattle.col_eval.proofs.OperandLemmas.{operand_outcome-column, operand_outcome-columns}
 use Rattle.col_eval.proofs.OperandLemmas.{operand_outcome-scalar, operand_outcome-left}
-use Rattle.col_eval.proofs.OperandLemmas.{operand_outcome-right, entry_of-operands, typed_parts}
+use Rattle.col_eval.proofs.OperandLemmas.{operand_outcome-right}
 use Rattle.col_eval.proofs.TreeLemmas.{right_type-own}
 use Rattle.col_eval.proofs.evaluation.+operand.Goals as goal
 
@@ -102,22 +102,3 @@ returns t c =
     (any_column c.lent-in_default-2.result.now) typed
     (right_type-own c.deref-in-Step.result.now _ c.in_default.not-Literal) left
     right ∙ c.in_ok-step-in_default.ensures)
-
-pub step_scalar-requires : goal.step_scalar-requires
-step_scalar-requires t c =
-    let right = sym c.deref-in-Step.ensures ∙ c.in-Literal-deref.is in
-    let typed = rw (c.in-Step.is, right) at c.requires in
-    let left = rw (c.deref.ensures, ← c.lent.ensures) at c.in_ok-lhs-in-Step.ensures in
-    entry_of-operands c.in-Step.op (tree_of c.in-Step.lhs.value)
-    (literal (scalar_type c.in-Literal-deref.scalar) (scalar_cell c.in-Literal-deref.scalar)) _
-    c.args.table.now _ typed left refl
-
-pub step-requires : goal.step-requires
-step-requires t c =
-    let typed = rw (c.in-Step.is, ← c.deref-in-Step.ensures) at c.requires in
-    let left = rw (c.deref.ensures, ← c.lent-in_default.ensures) at c.in_ok-lhs-in-Step.ensures in
-    let right = rw (← c.lent-in_default-2.ensures) at c.in_ok-rhs-in_default.ensures in
-    entry_of-operands c.in-Step.op (tree_of c.in-Step.lhs.value)
-    (tree_of c.deref-in-Step.result.now) _ c.args.table.now _ typed left
-    (right_type-own c.deref-in-Step.result.now _ c.in_default.not-Literal
-    ∙ (typed_parts _ _ _ right).0)

@@ -1,0 +1,201 @@
+-- What the rules of the table of steps say, and what steps answer by them.
+use Rattle.std.proofs.Common.{◌≡◌, ℤ, Bool, true, false, not, ◌&&◌, cond, List, [], ◌∷◌, length}
+use Rattle.std.proofs.Common.{replicate, Option, None, Some, option_map, Result, Ok, Err, inl, inr}
+use Rattle.std.proofs.Common.{refl, sym, ap, ◌∙◌, eq-eqb}
+use Rattle.std.specs.Int.{w8, w16, w32, w64}
+use Rattle.std.proofs.lemmas.List.{length-replicate}
+use Rattle.col_model.specs.Cell.{Cell, null, whole}
+use Rattle.col_model.specs.Whole.{WholeType, signed, unsigned}
+use Rattle.col_model.specs.WholeStep.{each_row, whole_step}
+use Rattle.col_types.specs.CellOf.{is_cell_of, value_fields}
+use Rattle.col_types.specs.Column.{Column, kernel_answer, row_count, scalar_answer}
+use Rattle.col_types.specs.DataKind.{DataKind}
+use Rattle.col_types.specs.DataKind as kind
+use Rattle.col_types.specs.DataType.{IsStoredAs, physical_type_of, whole_type_of}
+use Rattle.col_types.specs.NativeFields.{fields_of}
+use Rattle.col_types.specs.declared.datatypes.physical_type.PhysicalType.{PhysicalType}
+use Rattle.col_types.specs.declared.datatypes.physical_type.PhysicalType.TheVariants as physical
+use Rattle.col_types.specs.declared.datatypes.physical_type.PrimitiveType.{PrimitiveType}
+use Rattle.col_types.specs.declared.datatypes.physical_type.PrimitiveType.TheVariants as primitive
+use Rattle.col_types.specs.declared.error.Error.{Error}
+use Rattle.col_types.specs.declared.error.Error.TheVariants.{NotYetImplemented}
+use Rattle.col_flat.specs.Parts.{slot_cell}
+use Rattle.col_basic.proofs.FormLemmas as forms
+use Rattle.col_eval.specs.declared.entries.Rule.{Rule}
+use Rattle.col_eval.specs.declared.entries.Rule.TheVariants.{WholeNumbers}
+use Rattle.col_eval.specs.declared.expr.Op.{Op}
+use Rattle.col_eval.specs.Entries.{entry_by, entry_cell, entry_of, entry_type, form_of, operation_of}
+use Rattle.col_eval.specs.Entries.{rule_of, typed_step}
+use Rattle.col_eval.specs.Steps.{constant_column, scalar_step_answer, step_answer}
+
+-- a native type with one field has that field's type
+field_of : (n native : PrimitiveType) (v w : WholeType)
+    → physical.Primitive n ≡ physical.Primitive native → fields_of native ≡ w ∷ []
+    → fields_of n ≡ v ∷ [] → Some v ≡ Some w
+field_of n native v w stored fields own =
+    let same : n ≡ native = cc in
+    let first = ap fields_of same in cc
+
+-- what is stored as a native type of one field holds whole numbers of that field's type, where a
+-- step takes it as such
+pub whole_type_of-rule : (op : Op) (s t : DataKind) (native : PrimitiveType) (w : WholeType)
+    → rule_of op s t ≡ Some WholeNumbers → IsStoredAs s native → fields_of native ≡ w ∷ []
+    → whole_type_of s ≡ Some w
+whole_type_of-rule op kind.int8 kind.int8 native w h stored fields =
+    field_of primitive.Int8 native (signed w8) w stored fields refl
+whole_type_of-rule op kind.int16 kind.int16 native w h stored fields =
+    field_of primitive.Int16 native (signed w16) w stored fields refl
+whole_type_of-rule op kind.int32 kind.int32 native w h stored fields =
+    field_of primitive.Int32 native (signed w32) w stored fields refl
+whole_type_of-rule op kind.int64 kind.int64 native w h stored fields =
+    field_of primitive.Int64 native (signed w64) w stored fields refl
+whole_type_of-rule op kind.uint8 kind.uint8 native w h stored fields =
+    field_of primitive.UInt8 native (unsigned w8) w stored fields refl
+whole_type_of-rule op kind.uint16 kind.uint16 native w h stored fields =
+    field_of primitive.UInt16 native (unsigned w16) w stored fields refl
+whole_type_of-rule op kind.uint32 kind.uint32 native w h stored fields =
+    field_of primitive.UInt32 native (unsigned w32) w stored fields refl
+whole_type_of-rule op kind.uint64 kind.uint64 native w h stored fields =
+    field_of primitive.UInt64 native (unsigned w64) w stored fields refl
+whole_type_of-rule op _ _ native w h stored fields = absurd cc
+
+-- a step by the rule of whole numbers has two operands of one type
+one_type : (op : Op) (s t : DataKind) → rule_of op s t ≡ Some WholeNumbers → s ≡ t
+one_type op kind.int8 kind.int8 h = refl
+one_type op kind.int16 kind.int16 h = refl
+one_type op kind.int32 kind.int32 h = refl
+one_type op kind.int64 kind.int64 h = refl
+one_type op kind.uint8 kind.uint8 h = refl
+one_type op kind.uint16 kind.uint16 h = refl
+one_type op kind.uint32 kind.uint32 h = refl
+one_type op kind.uint64 kind.uint64 h = refl
+one_type op _ _ h = absurd cc
+
+-- columns of the layout hold whole numbers of one of the eight types
+abbrev pub is_whole_layout : PhysicalType → Bool
+is_whole_layout (physical.Primitive primitive.Int128) = false
+is_whole_layout (physical.Primitive primitive.DaysMs) = false
+is_whole_layout (physical.Primitive primitive.MonthDayNano) = false
+is_whole_layout (physical.Primitive native) = true
+is_whole_layout _ = false
+
+-- its left operand is stored as whole numbers
+whole_layout : (op : Op) (s t : DataKind) → rule_of op s t ≡ Some WholeNumbers
+    → is_whole_layout (physical_type_of s) ≡ true
+whole_layout op kind.int8 t h = refl
+whole_layout op kind.int16 t h = refl
+whole_layout op kind.int32 t h = refl
+whole_layout op kind.int64 t h = refl
+whole_layout op kind.uint8 t h = refl
+whole_layout op kind.uint16 t h = refl
+whole_layout op kind.uint32 t h = refl
+whole_layout op kind.uint64 t h = refl
+whole_layout op _ t h = absurd cc
+
+-- the layouts of its operands are one, and hold whole numbers
+pub layouts-rule : (op : Op) (s t : DataKind) (left right : PhysicalType)
+    → rule_of op s t ≡ Some WholeNumbers → physical_type_of s ≡ left → physical_type_of t ≡ right
+    → (left ≡ right) × (is_whole_layout left ≡ true)
+layouts-rule op s t left right h stored other =
+    let same = one_type op s t h in
+    (sym stored ∙ ap physical_type_of same ∙ other, rw stored at (whole_layout op s t h))
+
+-- a step on two columns of whole numbers is what the kernel answers
+pub step_answer-whole : (op : Op) (l r : Column) (w : WholeType)
+    → rule_of op l.data_type r.data_type ≡ Some WholeNumbers
+    → whole_type_of l.data_type ≡ Some w
+    → step_answer op l r ≡ kernel_answer (whole_step (operation_of op) (form_of op) w) l r
+step_answer-whole op l r w h g = rw (h, g) refl
+
+-- a column of one cell is as long as the one that it stands beside
+pub row_count-constant : (t : DataKind) (c : Cell) (l : Column)
+    → row_count l ≡ row_count (constant_column t c l)
+row_count-constant t c l = sym (length-replicate (row_count l) c)
+
+-- a step on a column of whole numbers and one of them is what the kernel answers
+pub scalar_step_answer-whole : (op : Op) (l : Column) (t : DataKind) (c : Cell) (w : WholeType)
+    → rule_of op l.data_type t ≡ Some WholeNumbers → whole_type_of l.data_type ≡ Some w
+    → scalar_step_answer op l t c ≡ scalar_answer (whole_step (operation_of op) (form_of op) w) l c
+scalar_step_answer-whole op l t c w h g =
+    let e = eq-eqb (row_count l) (row_count (constant_column t c l)) (row_count-constant t c l) in
+    rw (h, g, e) refl
+
+-- a step beside a null gives null
+typed_step-null : (op : Op) (t : Option WholeType) (a : Cell) → typed_step op t a null ≡ Ok null
+typed_step-null op None a = refl
+typed_step-null op (Some t) (whole n) = refl
+typed_step-null op (Some t) _ = refl
+
+-- each row is null beside a null
+each_row-null : (op : Op) (t : Option WholeType) (cells : List Cell)
+    → each_row (typed_step op t) cells (replicate (length cells) null) ≡ Ok
+    (replicate (length cells) null)
+each_row-null op t [] = refl
+each_row-null op t (c ∷ cells) = rw (typed_step-null op t c, each_row-null op t cells) refl
+
+-- a step on a column of whole numbers and a null gives nulls
+pub scalar_step_answer-null : (op : Op) (l : Column) (t : DataKind)
+    → rule_of op l.data_type t ≡ Some WholeNumbers
+    → scalar_step_answer op l t null ≡ Ok
+    (record { data_type = l.data_type; cells = replicate (row_count l) null })
+scalar_step_answer-null op l t h =
+    let e = eq-eqb (row_count l) (row_count (constant_column t null l))
+    (row_count-constant t null l) in
+    rw (h, e, each_row-null op (whole_type_of l.data_type) l.cells) refl
+
+-- the values of a type of whole numbers have one field
+value_fields-whole : (s : DataKind) (w : WholeType) → whole_type_of s ≡ Some w
+    → value_fields s ≡ w ∷ []
+value_fields-whole kind.int8 w h = cc
+value_fields-whole kind.int16 w h = cc
+value_fields-whole kind.int32 w h = cc
+value_fields-whole kind.int64 w h = cc
+value_fields-whole kind.uint8 w h = cc
+value_fields-whole kind.uint16 w h = cc
+value_fields-whole kind.uint32 w h = cc
+value_fields-whole kind.uint64 w h = cc
+value_fields-whole _ w h = absurd cc
+
+-- a step on whole numbers gives a cell of their type
+typed_step-cell : (op : Op) (s : DataKind) (t : Option WholeType) (a b c : Cell)
+    → whole_type_of s ≡ t → typed_step op t a b ≡ Ok c → is_cell_of s c ≡ true
+typed_step-cell op s None a b c h g = let same : null ≡ c = cc in rw (← same) refl
+typed_step-cell op s (Some w) a b c h g =
+    elim (forms.typed_step (operation_of op) (form_of op) w a b c g) [
+      | inl is_null ↦ rw is_null refl
+      | inr fits ↦ rw (fits.1.0, value_fields-whole s w h) fits.1.1
+    ]
+
+-- a choice that is no refusal
+chosen : (b : Bool) (e : Error) (r : Result DataKind Error) (u : DataKind)
+    → cond b (Err e) r ≡ Ok u → r ≡ Ok u
+chosen true e r u h = absurd cc
+chosen false e r u h = h
+
+-- a step gives a cell of the type that its rule says
+rule_cell : (rule : Option Rule) (op : Op) (is_literal : Bool) (s t u : DataKind) (a b c : Cell)
+    → entry_type is_literal (option_map (λ r. entry_by r op s t) rule) ≡ Ok u
+    → entry_cell (option_map (λ r. entry_by r op s t) rule) a b ≡ Ok c → is_cell_of u c ≡ true
+rule_cell None op is_literal s t u a b c h g = absurd cc
+rule_cell (Some WholeNumbers) op is_literal s t u a b c h g =
+    let kept = chosen (is_literal && not true) NotYetImplemented (Ok s) u h in
+    let same : s ≡ u = cc in
+    rw (← same) (typed_step-cell op s (whole_type_of s) a b c refl g)
+
+-- the cell of a step with a type is one of that type
+pub entry_cell-type : (op : Op) (is_literal : Bool) (s t u : DataKind) (a b c : Cell)
+    → entry_type is_literal (entry_of op s t) ≡ Ok u → entry_cell (entry_of op s t) a b ≡ Ok c
+    → is_cell_of u c ≡ true
+entry_cell-type op is_literal s t u a b c h g =
+    rule_cell (rule_of op s t) op is_literal s t u a b c h g
+
+-- the cell of a slot with one number
+pub slot_cell-number : {T : Type 0} (numbers : T → List ℤ) (value : T → ℤ) (x : T)
+    (slot : Option (List ℤ)) → ((y : T) → numbers y ≡ value y ∷ [])
+    → option_map numbers (Some x) ≡ slot → slot_cell slot ≡ whole (value x)
+slot_cell-number numbers value x slot law h = rw (← h, law x) refl
+
+-- the cell of an empty slot
+pub slot_cell-none : {T : Type 0} (numbers : T → List ℤ) (slot : Option (List ℤ))
+    → option_map numbers None ≡ slot → slot_cell slot ≡ null
+slot_cell-none numbers slot h = rw (← h) refl

@@ -1,0 +1,9 @@
+use Rattle.col_flat.specs.Parts.{column_of}
+use Rattle.col_eval.proofs.NegationLemmas.{negative_answer-made}
+use Rattle.col_eval.proofs.arithmetics.negative.Goals as goal
+
+pub returns : goal.returns
+returns g c =
+    let made = rw c.data_type-data_type.ensures.value at c.data_type-data_type.ensures.made in
+    rw (negative_answer-made (column_of c.args.array.now) _ _ c.requires made
+    g.met.T.NativeType.fields_law) c.negate.ensures.answer

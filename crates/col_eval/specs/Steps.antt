@@ -1,0 +1,38 @@
+-- What a step on columns answers, by its row of the table of steps.
+use Rattle.std.specs.Prelude.{Option, Some, None, Result, Ok, Err, replicate}
+use Rattle.col_model.specs.Cell.{Cell}
+use Rattle.col_types.specs.DataKind.{DataKind}
+use Rattle.col_types.specs.Column.{Column, kernel_answer, row_count}
+use Rattle.col_types.specs.declared.error.Error.{Error}
+use Rattle.col_types.specs.declared.error.Error.TheVariants.{NotYetImplemented}
+use Rattle.col_eval.specs.declared.expr.Op.{Op}
+use Rattle.col_eval.specs.Entries.{Entry, entry_of}
+
+-- the cells of a column under another type
+abbrev pub retyped : Column → DataKind → Column
+retyped c t = record { data_type = t; cells = c.cells }
+
+-- a refusal of the types, else what is answered with a type
+abbrev pub with_type : Result DataKind Error → (DataKind → Result Column Error)
+    → Result Column Error
+with_type (Err e) answer = Err e
+with_type (Ok t) answer = answer t
+
+-- what a step with a row answers for two columns: the refusal of their types, then that of their
+-- lengths, then the step at each row; without a row it is refused
+abbrev pub entry_answer : Option Entry → Column → Column → Result Column Error
+entry_answer None left right = Err NotYetImplemented
+entry_answer (Some entry) left right =
+    with_type entry.answer_type (λ t. kernel_answer entry.step (retyped left t) right)
+
+-- what a step answers for two columns
+abbrev pub step_answer : Op → Column → Column → Result Column Error
+step_answer op left right = entry_answer (entry_of op left.data_type right.data_type) left right
+
+-- a column of one cell at so many rows
+abbrev pub constant_column : DataKind → Cell → Column → Column
+constant_column t cell beside = record { data_type = t; cells = replicate (row_count beside) cell }
+
+-- what a step answers for a column and a scalar of a type: the scalar's cell stands beside each row
+abbrev pub scalar_step_answer : Op → Column → DataKind → Cell → Result Column Error
+scalar_step_answer op left t cell = step_answer op left (constant_column t cell left)
