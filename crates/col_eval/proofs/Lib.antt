@@ -7,4 +7,5 @@ pub mod RowLemmas
 pub mod RuleLemmas
 pub mod SplitLemmas
 pub mod StepLemmas
+pub mod StepTypeLemmas
 pub mod TreeLemmas

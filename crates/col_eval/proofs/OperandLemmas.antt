@@ -12,14 +12,14 @@ use Rattle.std.proofs.lemmas.Simd.{map-map, splat_is_map}
 use Rattle.col_model.specs.Cell.{Cell, null, Cause}
 use Rattle.col_model.specs.WholeStep.{each_row}
 use Rattle.col_types.specs.Answer.{error_of}
-use Rattle.col_types.specs.Column.{Column, column_answer, is_table, kernel_answer, row_at}
+use Rattle.col_types.specs.Column.{Column, column_answer, is_table, row_at}
 use Rattle.col_types.specs.Column.{row_count, table_row_count, types_of}
 use Rattle.col_types.specs.DataKind.{DataKind}
 use Rattle.col_types.specs.declared.error.Error.{Error}
 use Rattle.col_types.specs.declared.error.Error.TheVariants.{NotYetImplemented}
 use Rattle.col_eval.specs.declared.expr.Op.{Op}
 use Rattle.col_eval.specs.Entries.{Entry, entry_cell, entry_of, entry_type}
-use Rattle.col_eval.specs.Steps.{constant_column, entry_answer, retyped, scalar_step_answer}
+use Rattle.col_eval.specs.Steps.{constant_column, entry_answer, rows_answer, scalar_step_answer}
 use Rattle.col_eval.specs.Steps.{step_answer, with_type}
 use Rattle.col_eval.specs.Tree.{Tree, column, literal, step, step_count}
 use Rattle.col_eval.specs.Typing.{is_literal, right_type, type_of}
@@ -140,11 +140,11 @@ rows_meaning-step op left right table =
     (row_meaning left types) (row_meaning right types) (rows_of table)
     (IsBelow-row_meaning left types) (IsBelow-row_meaning right types)
 
--- a kernel's answer for two columns of one length
-kernel_answer-one_length : (s : Cell → Cell → Result Cell Cause) (l r : Column)
+-- the rows of two columns of one length
+rows_answer-one_length : (s : Cell → Cell → Result Cell Cause) (l r : Column) (t : DataKind)
     → row_count l ≡ row_count r
-    → kernel_answer s l r ≡ column_answer l.data_type (each_row s l.cells r.cells)
-kernel_answer-one_length s l r h = let e = eq-eqb (row_count l) (row_count r) h in rw e refl
+    → rows_answer s l r t ≡ column_answer t (each_row s l.cells r.cells)
+rows_answer-one_length s l r t h = let e = eq-eqb (row_count l) (row_count r) h in rw e refl
 
 -- a step with a type on two columns of one length is what its row of the table says
 typed_rows-chosen : (b : Bool) (t : Result DataKind Error) (s : Cell → Cell → Result Cell Cause)
@@ -152,11 +152,11 @@ typed_rows-chosen : (b : Bool) (t : Result DataKind Error) (s : Cell → Cell �
     → row_count l ≡ row_count r
     → typed_rows (cond b (Err NotYetImplemented) t)
     (at_rows number (each_row s l.cells r.cells))
-    ≡ with_type t (λ u. kernel_answer s (retyped l u) r)
+    ≡ with_type t (rows_answer s l r)
 typed_rows-chosen true t s number l r h g = absurd cc
 typed_rows-chosen false (Ok u) s number l r h g =
     typed_rows-at_rows u number (each_row s l.cells r.cells)
-    ∙ sym (kernel_answer-one_length s (retyped l u) r g)
+    ∙ sym (rows_answer-one_length s l r u g)
 typed_rows-chosen false (Err e) s number l r h g = absurd cc
 
 -- the same by the row itself

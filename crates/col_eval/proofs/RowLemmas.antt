@@ -1,6 +1,7 @@
 -- The cell of an outcome at a row is what the tree means for that row.
 use Rattle.std.proofs.Common.{◌≡◌, ◌≢◌, ℕ, ◌+◌, ◌<◌, inl, inr, List, length, map, slice_get}
-use Rattle.std.proofs.Common.{Option, Some, None, option_map, Result, Ok, Err, IsOk, refl, sym, ap, ◌∙◌}
+use Rattle.std.proofs.Common.{Option, Some, None, option_map, Result, Ok, Err, IsOk, refl}
+use Rattle.std.proofs.Common.{sym, ap, ◌∙◌}
 use Rattle.std.proofs.Common.{arith}
 use Rattle.std.specs.List.{range_with_len}
 use Rattle.std.proofs.lemmas.List.FromFn.{get_or-range_with_len, length-range_with_len}

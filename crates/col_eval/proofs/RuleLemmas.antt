@@ -24,52 +24,9 @@ use Rattle.col_basic.proofs.FormLemmas as forms
 use Rattle.col_eval.specs.declared.entries.Rule.{Rule}
 use Rattle.col_eval.specs.declared.entries.Rule.TheVariants.{WholeNumbers}
 use Rattle.col_eval.specs.declared.expr.Op.{Op}
-use Rattle.col_eval.specs.Entries.{entry_by, entry_cell, entry_of, entry_type, form_of, operation_of}
-use Rattle.col_eval.specs.Entries.{rule_of, typed_step}
+use Rattle.col_eval.specs.Entries.{entry_by, entry_cell, entry_of, entry_type, form_of}
+use Rattle.col_eval.specs.Entries.{operation_of, rule_of, typed_step}
 use Rattle.col_eval.specs.Steps.{constant_column, scalar_step_answer, step_answer}
-
--- a native type with one field has that field's type
-field_of : (n native : PrimitiveType) (v w : WholeType)
-    → physical.Primitive n ≡ physical.Primitive native → fields_of native ≡ w ∷ []
-    → fields_of n ≡ v ∷ [] → Some v ≡ Some w
-field_of n native v w stored fields own =
-    let same : n ≡ native = cc in
-    let first = ap fields_of same in cc
-
--- what is stored as a native type of one field holds whole numbers of that field's type, where a
--- step takes it as such
-pub whole_type_of-rule : (op : Op) (s t : DataKind) (native : PrimitiveType) (w : WholeType)
-    → rule_of op s t ≡ Some WholeNumbers → IsStoredAs s native → fields_of native ≡ w ∷ []
-    → whole_type_of s ≡ Some w
-whole_type_of-rule op kind.int8 kind.int8 native w h stored fields =
-    field_of primitive.Int8 native (signed w8) w stored fields refl
-whole_type_of-rule op kind.int16 kind.int16 native w h stored fields =
-    field_of primitive.Int16 native (signed w16) w stored fields refl
-whole_type_of-rule op kind.int32 kind.int32 native w h stored fields =
-    field_of primitive.Int32 native (signed w32) w stored fields refl
-whole_type_of-rule op kind.int64 kind.int64 native w h stored fields =
-    field_of primitive.Int64 native (signed w64) w stored fields refl
-whole_type_of-rule op kind.uint8 kind.uint8 native w h stored fields =
-    field_of primitive.UInt8 native (unsigned w8) w stored fields refl
-whole_type_of-rule op kind.uint16 kind.uint16 native w h stored fields =
-    field_of primitive.UInt16 native (unsigned w16) w stored fields refl
-whole_type_of-rule op kind.uint32 kind.uint32 native w h stored fields =
-    field_of primitive.UInt32 native (unsigned w32) w stored fields refl
-whole_type_of-rule op kind.uint64 kind.uint64 native w h stored fields =
-    field_of primitive.UInt64 native (unsigned w64) w stored fields refl
-whole_type_of-rule op _ _ native w h stored fields = absurd cc
-
--- a step by the rule of whole numbers has two operands of one type
-one_type : (op : Op) (s t : DataKind) → rule_of op s t ≡ Some WholeNumbers → s ≡ t
-one_type op kind.int8 kind.int8 h = refl
-one_type op kind.int16 kind.int16 h = refl
-one_type op kind.int32 kind.int32 h = refl
-one_type op kind.int64 kind.int64 h = refl
-one_type op kind.uint8 kind.uint8 h = refl
-one_type op kind.uint16 kind.uint16 h = refl
-one_type op kind.uint32 kind.uint32 h = refl
-one_type op kind.uint64 kind.uint64 h = refl
-one_type op _ _ h = absurd cc
 
 -- columns of the layout hold whole numbers of one of the eight types
 abbrev pub is_whole_layout : PhysicalType → Bool
@@ -79,26 +36,70 @@ is_whole_layout (physical.Primitive primitive.MonthDayNano) = false
 is_whole_layout (physical.Primitive native) = true
 is_whole_layout _ = false
 
--- its left operand is stored as whole numbers
-whole_layout : (op : Op) (s t : DataKind) → rule_of op s t ≡ Some WholeNumbers
-    → is_whole_layout (physical_type_of s) ≡ true
-whole_layout op kind.int8 t h = refl
-whole_layout op kind.int16 t h = refl
-whole_layout op kind.int32 t h = refl
-whole_layout op kind.int64 t h = refl
-whole_layout op kind.uint8 t h = refl
-whole_layout op kind.uint16 t h = refl
-whole_layout op kind.uint32 t h = refl
-whole_layout op kind.uint64 t h = refl
-whole_layout op _ t h = absurd cc
+-- a type of whole numbers: its numbers, and how they are stored
+record IsWholeKind (t : DataKind) : Type 0 where
+  numbers : WholeType
+  native : PrimitiveType
+  whole : whole_type_of t ≡ Some numbers
+  stored : IsStoredAs t native
+  field : fields_of native ≡ numbers ∷ []
+  values : value_fields t ≡ numbers ∷ []
+  layout : is_whole_layout (physical_type_of t) ≡ true
+
+whole_kind : (t : DataKind) (w : WholeType) (n : PrimitiveType) → whole_type_of t ≡ Some w
+    → IsStoredAs t n → fields_of n ≡ w ∷ [] → value_fields t ≡ w ∷ []
+    → is_whole_layout (physical_type_of t) ≡ true → IsWholeKind t
+whole_kind t w n known stored field values layout = record {
+  numbers = w;
+  native = n;
+  whole = known;
+  stored = stored;
+  field = field;
+  values = values;
+  layout = layout;
+}
+
+-- a step by the rule of whole numbers has two operands of one such type
+taken_kind : (op : Op) (s t : DataKind) → rule_of op s t ≡ Some WholeNumbers
+    → (s ≡ t) × IsWholeKind s
+taken_kind op kind.int8 kind.int8 h =
+    (refl, whole_kind kind.int8 (signed w8) primitive.Int8 refl refl refl refl refl)
+taken_kind op kind.int16 kind.int16 h =
+    (refl, whole_kind kind.int16 (signed w16) primitive.Int16 refl refl refl refl refl)
+taken_kind op kind.int32 kind.int32 h =
+    (refl, whole_kind kind.int32 (signed w32) primitive.Int32 refl refl refl refl refl)
+taken_kind op kind.int64 kind.int64 h =
+    (refl, whole_kind kind.int64 (signed w64) primitive.Int64 refl refl refl refl refl)
+taken_kind op kind.uint8 kind.uint8 h =
+    (refl, whole_kind kind.uint8 (unsigned w8) primitive.UInt8 refl refl refl refl refl)
+taken_kind op kind.uint16 kind.uint16 h =
+    (refl, whole_kind kind.uint16 (unsigned w16) primitive.UInt16 refl refl refl refl refl)
+taken_kind op kind.uint32 kind.uint32 h =
+    (refl, whole_kind kind.uint32 (unsigned w32) primitive.UInt32 refl refl refl refl refl)
+taken_kind op kind.uint64 kind.uint64 h =
+    (refl, whole_kind kind.uint64 (unsigned w64) primitive.UInt64 refl refl refl refl refl)
+taken_kind op _ _ h = absurd cc
+
+-- what is stored as a native type of one field holds whole numbers of that field's type, where a
+-- step takes it as such
+pub whole_type_of-rule : (op : Op) (s t : DataKind) (native : PrimitiveType) (w : WholeType)
+    → rule_of op s t ≡ Some WholeNumbers → IsStoredAs s native → fields_of native ≡ w ∷ []
+    → whole_type_of s ≡ Some w
+whole_type_of-rule op s t native w h stored fields =
+    let k = (taken_kind op s t h).1 in
+    let layout : physical.Primitive k.native ≡ physical.Primitive native = sym k.stored ∙ stored in
+    let same : k.native ≡ native = cc in
+    let first : fields_of k.native ≡ fields_of native = ap fields_of same in
+    let number : k.numbers ≡ w = cc (first, k.field, fields) in
+    k.whole ∙ ap Some number
 
 -- the layouts of its operands are one, and hold whole numbers
 pub layouts-rule : (op : Op) (s t : DataKind) (left right : PhysicalType)
     → rule_of op s t ≡ Some WholeNumbers → physical_type_of s ≡ left → physical_type_of t ≡ right
     → (left ≡ right) × (is_whole_layout left ≡ true)
 layouts-rule op s t left right h stored other =
-    let same = one_type op s t h in
-    (sym stored ∙ ap physical_type_of same ∙ other, rw stored at (whole_layout op s t h))
+    let k = taken_kind op s t h in
+    (sym stored ∙ ap physical_type_of k.0 ∙ other, rw stored at k.1.layout)
 
 -- a step on two columns of whole numbers is what the kernel answers
 pub step_answer-whole : (op : Op) (l r : Column) (w : WholeType)
@@ -143,27 +144,13 @@ scalar_step_answer-null op l t h =
     (row_count-constant t null l) in
     rw (h, e, each_row-null op (whole_type_of l.data_type) l.cells) refl
 
--- the values of a type of whole numbers have one field
-value_fields-whole : (s : DataKind) (w : WholeType) → whole_type_of s ≡ Some w
-    → value_fields s ≡ w ∷ []
-value_fields-whole kind.int8 w h = cc
-value_fields-whole kind.int16 w h = cc
-value_fields-whole kind.int32 w h = cc
-value_fields-whole kind.int64 w h = cc
-value_fields-whole kind.uint8 w h = cc
-value_fields-whole kind.uint16 w h = cc
-value_fields-whole kind.uint32 w h = cc
-value_fields-whole kind.uint64 w h = cc
-value_fields-whole _ w h = absurd cc
-
 -- a step on whole numbers gives a cell of their type
-typed_step-cell : (op : Op) (s : DataKind) (t : Option WholeType) (a b c : Cell)
-    → whole_type_of s ≡ t → typed_step op t a b ≡ Ok c → is_cell_of s c ≡ true
-typed_step-cell op s None a b c h g = let same : null ≡ c = cc in rw (← same) refl
-typed_step-cell op s (Some w) a b c h g =
+typed_step-cell : (op : Op) (s : DataKind) (w : WholeType) (a b c : Cell)
+    → value_fields s ≡ w ∷ [] → typed_step op (Some w) a b ≡ Ok c → is_cell_of s c ≡ true
+typed_step-cell op s w a b c h g =
     elim (forms.typed_step (operation_of op) (form_of op) w a b c g) [
       | inl is_null ↦ rw is_null refl
-      | inr fits ↦ rw (fits.1.0, value_fields-whole s w h) fits.1.1
+      | inr fits ↦ rw (fits.1.0, h) fits.1.1
     ]
 
 -- a choice that is no refusal
@@ -174,20 +161,23 @@ chosen false e r u h = h
 
 -- a step gives a cell of the type that its rule says
 rule_cell : (rule : Option Rule) (op : Op) (is_literal : Bool) (s t u : DataKind) (a b c : Cell)
+    → rule_of op s t ≡ rule
     → entry_type is_literal (option_map (λ r. entry_by r op s t) rule) ≡ Ok u
     → entry_cell (option_map (λ r. entry_by r op s t) rule) a b ≡ Ok c → is_cell_of u c ≡ true
-rule_cell None op is_literal s t u a b c h g = absurd cc
-rule_cell (Some WholeNumbers) op is_literal s t u a b c h g =
+rule_cell None op is_literal s t u a b c r h g = absurd cc
+rule_cell (Some WholeNumbers) op is_literal s t u a b c r h g =
+    let k = (taken_kind op s t r).1 in
     let kept = chosen (is_literal && not true) NotYetImplemented (Ok s) u h in
     let same : s ≡ u = cc in
-    rw (← same) (typed_step-cell op s (whole_type_of s) a b c refl g)
+    let cells = rw k.whole at g in
+    rw (← same) (typed_step-cell op s k.numbers a b c k.values cells)
 
 -- the cell of a step with a type is one of that type
 pub entry_cell-type : (op : Op) (is_literal : Bool) (s t u : DataKind) (a b c : Cell)
     → entry_type is_literal (entry_of op s t) ≡ Ok u → entry_cell (entry_of op s t) a b ≡ Ok c
     → is_cell_of u c ≡ true
 entry_cell-type op is_literal s t u a b c h g =
-    rule_cell (rule_of op s t) op is_literal s t u a b c h g
+    rule_cell (rule_of op s t) op is_literal s t u a b c refl h g
 
 -- the cell of a slot with one number
 pub slot_cell-number : {T : Type 0} (numbers : T → List ℤ) (value : T → ℤ) (x : T)

@@ -1,18 +1,19 @@
 -- What a tree gives for a table in two parts is what it gives for each, joined.
 use Rattle.std.proofs.Common.{◌≡◌, ℕ, ◌+◌, ◌-◌, ◌<◌, ◌≤◌, Bool, true, false, ◌==◌, nat_le, cond}
-use Rattle.std.proofs.Common.{List, [], ◌∷◌, ◌++◌, map, length, get_or, inl, inr, refl, sym, ap, ◌∙◌}
-use Rattle.std.proofs.Common.{arith, eqb-true, le-leb, leb-true, leb-false, length-append}
+use Rattle.std.proofs.Common.{IsTrue, List, [], ◌∷◌, ◌++◌, map, length, get_or, inl, inr}
+use Rattle.std.proofs.Common.{refl, sym, ap, ◌∙◌}
+use Rattle.std.proofs.Common.{arith, eq-eqb, eqb-true, le-leb, leb-true, leb-false, length-append}
 use Rattle.std.specs.List.{list_all}
 use Rattle.std.proofs.lemmas.Bool.{and_parts, cases_lt, lt-leb}
 use Rattle.std.proofs.lemmas.List.{get_or_append_left, get_or-append_right, map-append}
 use Rattle.std.proofs.lemmas.List.FromFn.{fill_by_all, get_or-map-range_with_len}
 use Rattle.col_model.specs.Cell.{Cell, null, Cause}
-use Rattle.col_types.specs.Column.{Column, row_at, row_count, table_row_count, types_of}
+use Rattle.col_types.specs.Column.{Column, is_table, row_at, row_count, table_row_count, types_of}
 use Rattle.col_eval.specs.Tree.{Tree}
-use Rattle.col_eval.specs.Typing.{typing_of}
 use Rattle.col_eval.specs.Meaning.{RowAnswer, cell, refused_at, RowsAnswer, all_cells, refusal}
-use Rattle.col_eval.specs.Meaning.{in_front, gathered, outcome_of, row_meaning, rows_meaning, rows_of}
-use Rattle.col_eval.specs.Meaning.{sooner, typed_rows}
+use Rattle.col_eval.specs.Meaning.{in_front, gathered, row_meaning, rows_meaning, rows_of}
+use Rattle.col_eval.specs.Meaning.{sooner}
+use Rattle.col_eval.specs.Laws.{JoinsParts}
 use Rattle.col_eval.specs.Split.{AreParts, joined, stacked}
 use Rattle.col_eval.proofs.RowLemmas.{length-rows_of}
 
@@ -169,11 +170,32 @@ rows_of-stacked upper lower parts =
           ∙ sym (row_at-lower upper lower count row parts.types parts.upper_table lower_row)
     ]))
 
--- a tree's outcome for a table in two parts
-pub outcome_of-stacked : (tree : Tree) (upper lower : List Column) → AreParts upper lower
-    → outcome_of tree (stacked upper lower) ≡ typed_rows (typing_of tree (types_of upper))
-    (joined (rows_meaning tree upper) (rows_meaning tree lower))
-outcome_of-stacked tree upper lower parts =
+-- the columns of both parts have the rows of both
+have_rows-stacked : (upper lower : List Column) (n m : ℕ) → types_of upper ≡ types_of lower
+    → HaveRows n upper → HaveRows m lower → HaveRows (n + m) (stacked upper lower)
+have_rows-stacked [] lower n m h hu hl = refl
+have_rows-stacked (c ∷ upper) [] n m h hu hl = absurd cc
+have_rows-stacked (c ∷ upper) (d ∷ lower) n m h hu hl =
+    let rest : types_of upper ≡ types_of lower = cc in
+    let first = first_column n c upper hu in
+    let second = first_column m d lower hl in
+    let long = eq-eqb (length (c.cells ++ d.cells)) (n + m)
+    (omega (arith, length-append c.cells d.cells, first.0, second.0)) in
+    rw (long, have_rows-stacked upper lower n m rest first.1 second.1) refl
+
+-- both parts are a table
+is_table-stacked : (upper lower : List Column) → AreParts upper lower
+    → IsTrue (is_table (stacked upper lower))
+is_table-stacked upper lower parts =
+    rw (table_row_count-stacked upper lower parts.types)
+    (have_rows-stacked upper lower (table_row_count upper) (table_row_count lower) parts.types
+    parts.upper_table parts.lower_table)
+
+-- what a tree gives for all rows of a table in two parts
+rows_meaning-stacked : (tree : Tree) (upper lower : List Column) → AreParts upper lower
+    → rows_meaning tree (stacked upper lower) ≡ joined (rows_meaning tree upper)
+    (rows_meaning tree lower)
+rows_meaning-stacked tree upper lower parts =
     rw (
       types_of-stacked upper lower parts.types,
       rows_of-stacked upper lower parts,
@@ -183,3 +205,16 @@ outcome_of-stacked tree upper lower parts =
       ← parts.types,
     )
     refl
+
+-- two parts join
+pub joins_parts : (tree : Tree) (upper lower : List Column) → AreParts upper lower
+    → JoinsParts tree upper lower
+joins_parts tree upper lower parts = record {
+  table = is_table-stacked upper lower parts;
+  types = types_of-stacked upper lower parts.types;
+  rows = rows_meaning-stacked tree upper lower parts;
+  outcome = rw (
+    rows_meaning-stacked tree upper lower parts,
+    types_of-stacked upper lower parts.types,
+  ) refl;
+}

@@ -94,8 +94,8 @@ entry_by WholeNumbers op s t = record {
 abbrev pub entry_of : Op → DataKind → DataKind → Option Entry
 entry_of op s t = option_map (λ rule. entry_by rule op s t) (rule_of op s t)
 
--- the type of what a step in a tree gives, its right operand being a literal or not: refused without
--- a row, and where the row takes no literal
+-- the type of what a step in a tree gives, its right operand being a literal or not: refused
+-- without a row, and where the row takes no literal
 abbrev pub entry_type : Bool → Option Entry → Result DataKind Error
 entry_type is_literal None = Err NotYetImplemented
 entry_type is_literal (Some entry) =

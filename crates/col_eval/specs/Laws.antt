@@ -1,10 +1,11 @@
 -- What the definitions of this crate say together.
-use Rattle.std.specs.Prelude.{◌≡◌, ◌≢◌, ℕ, ◌<◌, ◌≤◌, ◌⊎◌, IsTrue, IsOk, List, [], ◌∷◌, ◌++◌, length, map}
+use Rattle.std.specs.Prelude.{◌≡◌, ◌≢◌, ℕ, ◌<◌, ◌≤◌, ◌⊎◌, IsTrue, IsOk, List, []}
+use Rattle.std.specs.Prelude.{◌∷◌, ◌++◌, length, map}
 use Rattle.std.specs.Prelude.{slice_get, Some, Ok, Err}
 use Rattle.std.specs.List.{All, list_all}
 use Rattle.col_model.specs.Cell.{Cell, Cause}
 use Rattle.col_types.specs.CellOf.{HoldsItsCells, is_typed_column}
-use Rattle.col_types.specs.Column.{Column, row_at, table_row_count, types_of}
+use Rattle.col_types.specs.Column.{Column, is_table, row_at, table_row_count, types_of}
 use Rattle.col_types.specs.DataKind.{DataKind}
 use Rattle.col_eval.specs.declared.expr.Op.{Op}
 use Rattle.col_eval.specs.Tree.{Tree, column, literal, step}
@@ -120,9 +121,24 @@ OutcomeHoldsItsCells =
     → IsTrue (list_all is_typed_column table) → outcome_of tree table ≡ Ok answer
     → HoldsItsCells answer
 
--- what a tree gives for a table in two parts is what it gives for each of them, joined
+-- two parts of a table are a table of the same types, which may be a part again; and what a tree
+-- gives for it is what it gives for each of them, joined
+pub record JoinsParts (tree : Tree) (upper lower : List Column) : Type 0 where
+  pub table : IsTrue (is_table (stacked upper lower))
+  pub types : types_of (stacked upper lower) ≡ types_of upper
+  pub rows : rows_meaning tree (stacked upper lower) ≡ joined (rows_meaning tree upper)
+      (rows_meaning tree lower)
+  pub outcome : outcome_of tree (stacked upper lower) ≡ typed_rows
+      (typing_of tree (types_of upper))
+      (joined (rows_meaning tree upper) (rows_meaning tree lower))
+
+-- this holds of each tree and of any two parts
 abbrev pub OutcomesOfPartsJoin : Type 0
 OutcomesOfPartsJoin =
-    (tree : Tree) (upper lower : List Column) → AreParts upper lower
-    → outcome_of tree (stacked upper lower) ≡ typed_rows (typing_of tree (types_of upper))
-    (joined (rows_meaning tree upper) (rows_meaning tree lower))
+    (tree : Tree) (upper lower : List Column) → AreParts upper lower → JoinsParts tree upper lower
+
+-- each step of a tree with a type has a type, as a tree of its own
+abbrev pub StepsOfTypedTreesHaveTypes : Type 0
+StepsOfTypedTreesHaveTypes =
+    (tree : Tree) (types : List DataKind) → IsOk (typing_of tree types)
+    → All (λ t. IsOk (typing_of t types)) (steps_in_order tree)

@@ -14,11 +14,14 @@ use Rattle.col_basic.specs.Negative.{plain_negative}
 
 -- values of the native type have a negative: numbers with a sign, and intervals
 abbrev pub has_negative : PrimitiveType → Bool
-has_negative native.UInt8 = false
-has_negative native.UInt16 = false
-has_negative native.UInt32 = false
-has_negative native.UInt64 = false
-has_negative _ = true
+has_negative native.Int8 = true
+has_negative native.Int16 = true
+has_negative native.Int32 = true
+has_negative native.Int64 = true
+has_negative native.Int128 = true
+has_negative native.DaysMs = true
+has_negative native.MonthDayNano = true
+has_negative _ = false
 
 -- columns of the layout have negatives
 abbrev pub is_signed_layout : PhysicalType → Bool

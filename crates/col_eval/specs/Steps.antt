@@ -1,16 +1,15 @@
 -- What a step on columns answers, by its row of the table of steps.
-use Rattle.std.specs.Prelude.{Option, Some, None, Result, Ok, Err, replicate}
-use Rattle.col_model.specs.Cell.{Cell}
+use Rattle.std.specs.Prelude.{Option, Some, None, Result, Ok, Err, replicate, if◌then◌else◌, ◌==◌}
+use Rattle.col_model.specs.Cell.{Cell, Cause}
+use Rattle.col_model.specs.WholeStep.{each_row}
 use Rattle.col_types.specs.DataKind.{DataKind}
-use Rattle.col_types.specs.Column.{Column, kernel_answer, row_count}
+use Rattle.col_types.specs.Column.{Column, column_answer, row_count}
 use Rattle.col_types.specs.declared.error.Error.{Error}
+use Rattle.col_types.specs.declared.error.Error.TheVariants.{InvalidArgumentError}
 use Rattle.col_types.specs.declared.error.Error.TheVariants.{NotYetImplemented}
+use Rattle.col_types.specs.declared.error.Reason.TheVariants.{Lengths}
 use Rattle.col_eval.specs.declared.expr.Op.{Op}
 use Rattle.col_eval.specs.Entries.{Entry, entry_of}
-
--- the cells of a column under another type
-abbrev pub retyped : Column → DataKind → Column
-retyped c t = record { data_type = t; cells = c.cells }
 
 -- a refusal of the types, else what is answered with a type
 abbrev pub with_type : Result DataKind Error → (DataKind → Result Column Error)
@@ -18,12 +17,21 @@ abbrev pub with_type : Result DataKind Error → (DataKind → Result Column Err
 with_type (Err e) answer = Err e
 with_type (Ok t) answer = answer t
 
+-- what is answered with a type for two columns: the refusal of their lengths, else the step at each
+-- row
+abbrev pub rows_answer : (Cell → Cell → Result Cell Cause) → Column → Column → DataKind
+    → Result Column Error
+rows_answer step left right t =
+    if row_count left == row_count right
+    then column_answer t (each_row step left.cells right.cells)
+    else Err (InvalidArgumentError Lengths)
+
 -- what a step with a row answers for two columns: the refusal of their types, then that of their
 -- lengths, then the step at each row; without a row it is refused
 abbrev pub entry_answer : Option Entry → Column → Column → Result Column Error
 entry_answer None left right = Err NotYetImplemented
 entry_answer (Some entry) left right =
-    with_type entry.answer_type (λ t. kernel_answer entry.step (retyped left t) right)
+    with_type entry.answer_type (rows_answer entry.step left right)
 
 -- what a step answers for two columns
 abbrev pub step_answer : Op → Column → Column → Result Column Error

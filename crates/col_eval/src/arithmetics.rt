@@ -12,17 +12,17 @@ ghost use Rattle.col_eval.specs.Steps.{scalar_step_answer, step_answer};
 use crate::dispatch::{step, step_scalar};
 use crate::entries::Rule;
 use crate::expr::Op;
-use col_array::{AnyArray, AnyScalar};
+use col_array::{AnyArray, AnyScalar, with_typed};
 use col_basic::negate;
 use col_flat::PrimitiveArray;
 use col_types::{DataType, Error, NativeNegate, PhysicalType, PrimitiveType};
 use std::alloc::Global;
 
-/// Adds two arrays row by row. A row where either slot is null is null.
+/// The sums, row by row; null where either slot is null. The answer has the type of `lhs`.
 ///
 /// Refused, in this order: `NotYetImplemented` exactly where `can_add` is false of the types;
-/// `Lengths` exactly where the arrays differ in length; the least refused row's cause: `Overflow`
-/// where the sum of two valid slots does not fit.
+/// `Lengths` exactly where the arrays differ in length; `Overflow` exactly where some row has two
+/// valid slots whose sum does not fit.
 pub fn add(alloc: Global, lhs: &AnyArray, rhs: &AnyArray) -> Result<AnyArray, Error>
     ensures answer { Answers any_column result
         (step_answer Add (any_column lhs.now) (any_column rhs.now)) }
@@ -30,11 +30,11 @@ pub fn add(alloc: Global, lhs: &AnyArray, rhs: &AnyArray) -> Result<AnyArray, Er
     step(alloc, Op::Add, lhs, rhs)
 }
 
-/// Subtracts two arrays row by row. A row where either slot is null is null.
+/// The differences, row by row; null where either slot is null. The answer has the type of `lhs`.
 ///
 /// Refused, in this order: `NotYetImplemented` exactly where `can_sub` is false of the types;
-/// `Lengths` exactly where the arrays differ in length; the least refused row's cause: `Overflow`
-/// where the difference of two valid slots does not fit.
+/// `Lengths` exactly where the arrays differ in length; `Overflow` exactly where some row has two
+/// valid slots whose difference does not fit.
 pub fn sub(alloc: Global, lhs: &AnyArray, rhs: &AnyArray) -> Result<AnyArray, Error>
     ensures answer { Answers any_column result
         (step_answer Sub (any_column lhs.now) (any_column rhs.now)) }
@@ -42,11 +42,11 @@ pub fn sub(alloc: Global, lhs: &AnyArray, rhs: &AnyArray) -> Result<AnyArray, Er
     step(alloc, Op::Sub, lhs, rhs)
 }
 
-/// Multiplies two arrays row by row. A row where either slot is null is null.
+/// The products, row by row; null where either slot is null. The answer has the type of `lhs`.
 ///
 /// Refused, in this order: `NotYetImplemented` exactly where `can_mul` is false of the types;
-/// `Lengths` exactly where the arrays differ in length; the least refused row's cause: `Overflow`
-/// where the product of two valid slots does not fit.
+/// `Lengths` exactly where the arrays differ in length; `Overflow` exactly where some row has two
+/// valid slots whose product does not fit.
 pub fn mul(alloc: Global, lhs: &AnyArray, rhs: &AnyArray) -> Result<AnyArray, Error>
     ensures answer { Answers any_column result
         (step_answer Mul (any_column lhs.now) (any_column rhs.now)) }
@@ -54,12 +54,13 @@ pub fn mul(alloc: Global, lhs: &AnyArray, rhs: &AnyArray) -> Result<AnyArray, Er
     step(alloc, Op::Mul, lhs, rhs)
 }
 
-/// Divides two arrays row by row. A quotient goes toward zero. A row where either slot is null is
-/// null.
+/// The quotients, toward zero, row by row; null where either slot is null. The answer has the type
+/// of `lhs`.
 ///
 /// Refused, in this order: `NotYetImplemented` exactly where `can_div` is false of the types;
-/// `Lengths` exactly where the arrays differ in length; the least refused row's cause:
-/// `DivideByZero` where a valid slot has the divisor 0, `Overflow` where the quotient does not fit.
+/// `Lengths` exactly where the arrays differ in length; the cause of the least row with two valid
+/// slots that has one: `DivideByZero` where the divisor is 0, `Overflow` where the quotient does
+/// not fit.
 pub fn div(alloc: Global, lhs: &AnyArray, rhs: &AnyArray) -> Result<AnyArray, Error>
     ensures answer { Answers any_column result
         (step_answer Div (any_column lhs.now) (any_column rhs.now)) }
@@ -67,12 +68,13 @@ pub fn div(alloc: Global, lhs: &AnyArray, rhs: &AnyArray) -> Result<AnyArray, Er
     step(alloc, Op::Div, lhs, rhs)
 }
 
-/// Takes the remainders of two arrays row by row. A remainder has the dividend's sign. A row where
-/// either slot is null is null.
+/// The remainders, with the dividend's sign, row by row; null where either slot is null. The answer
+/// has the type of `lhs`.
 ///
 /// Refused, in this order: `NotYetImplemented` exactly where `can_rem` is false of the types;
-/// `Lengths` exactly where the arrays differ in length; the least refused row's cause:
-/// `DivideByZero` where a valid slot has the divisor 0, `Overflow` where the quotient does not fit.
+/// `Lengths` exactly where the arrays differ in length; the cause of the least row with two valid
+/// slots that has one: `DivideByZero` where the divisor is 0, `Overflow` where the quotient does
+/// not fit.
 pub fn rem(alloc: Global, lhs: &AnyArray, rhs: &AnyArray) -> Result<AnyArray, Error>
     ensures answer { Answers any_column result
         (step_answer Rem (any_column lhs.now) (any_column rhs.now)) }
@@ -80,10 +82,11 @@ pub fn rem(alloc: Global, lhs: &AnyArray, rhs: &AnyArray) -> Result<AnyArray, Er
     step(alloc, Op::Rem, lhs, rhs)
 }
 
-/// Adds a scalar to each slot. A null slot stays null, and a null scalar gives all null.
+/// The sums of each slot and the scalar; null where either is null. The answer has the type of
+/// `lhs`.
 ///
 /// Refused, in this order: `NotYetImplemented` exactly where `can_add` is false of the types;
-/// `Overflow` exactly where the sum of some valid slot and the scalar does not fit.
+/// `Overflow` exactly where the sum of some valid slot and a valid scalar does not fit.
 pub fn add_scalar(alloc: Global, lhs: &AnyArray, rhs: &AnyScalar) -> Result<AnyArray, Error>
     ensures answer { Answers any_column result (scalar_step_answer Add (any_column lhs.now)
         (scalar_type rhs.now) (scalar_cell rhs.now)) }
@@ -91,10 +94,11 @@ pub fn add_scalar(alloc: Global, lhs: &AnyArray, rhs: &AnyScalar) -> Result<AnyA
     step_scalar(alloc, Op::Add, lhs, rhs)
 }
 
-/// Subtracts a scalar from each slot. A null slot stays null, and a null scalar gives all null.
+/// The differences of each slot and the scalar; null where either is null. The answer has the type
+/// of `lhs`.
 ///
 /// Refused, in this order: `NotYetImplemented` exactly where `can_sub` is false of the types;
-/// `Overflow` exactly where the difference of some valid slot and the scalar does not fit.
+/// `Overflow` exactly where the difference of some valid slot and a valid scalar does not fit.
 pub fn sub_scalar(alloc: Global, lhs: &AnyArray, rhs: &AnyScalar) -> Result<AnyArray, Error>
     ensures answer { Answers any_column result (scalar_step_answer Sub (any_column lhs.now)
         (scalar_type rhs.now) (scalar_cell rhs.now)) }
@@ -102,10 +106,11 @@ pub fn sub_scalar(alloc: Global, lhs: &AnyArray, rhs: &AnyScalar) -> Result<AnyA
     step_scalar(alloc, Op::Sub, lhs, rhs)
 }
 
-/// Multiplies each slot by a scalar. A null slot stays null, and a null scalar gives all null.
+/// The products of each slot and the scalar; null where either is null. The answer has the type of
+/// `lhs`.
 ///
 /// Refused, in this order: `NotYetImplemented` exactly where `can_mul` is false of the types;
-/// `Overflow` exactly where the product of some valid slot and the scalar does not fit.
+/// `Overflow` exactly where the product of some valid slot and a valid scalar does not fit.
 pub fn mul_scalar(alloc: Global, lhs: &AnyArray, rhs: &AnyScalar) -> Result<AnyArray, Error>
     ensures answer { Answers any_column result (scalar_step_answer Mul (any_column lhs.now)
         (scalar_type rhs.now) (scalar_cell rhs.now)) }
@@ -113,12 +118,12 @@ pub fn mul_scalar(alloc: Global, lhs: &AnyArray, rhs: &AnyScalar) -> Result<AnyA
     step_scalar(alloc, Op::Mul, lhs, rhs)
 }
 
-/// Divides each slot by a scalar. A quotient goes toward zero. A null slot stays null, and a null
-/// scalar gives all null.
+/// The quotients, toward zero, of each slot and the scalar; null where either is null. The answer
+/// has the type of `lhs`.
 ///
-/// Refused, in this order: `NotYetImplemented` exactly where `can_div` is false of the types; of a
-/// column with a valid slot, `DivideByZero` exactly where the scalar is 0; `Overflow` exactly where
-/// some valid slot's quotient does not fit.
+/// Refused, in this order: `NotYetImplemented` exactly where `can_div` is false of the types; where
+/// some slot is valid, `DivideByZero` exactly where the scalar is 0; `Overflow` exactly where the
+/// quotient of some valid slot and a valid scalar does not fit.
 pub fn div_scalar(alloc: Global, lhs: &AnyArray, rhs: &AnyScalar) -> Result<AnyArray, Error>
     ensures answer { Answers any_column result (scalar_step_answer Div (any_column lhs.now)
         (scalar_type rhs.now) (scalar_cell rhs.now)) }
@@ -134,90 +139,96 @@ pub fn div_scalar(alloc: Global, lhs: &AnyArray, rhs: &AnyScalar) -> Result<AnyA
 pub fn neg(alloc: Global, array: &AnyArray) -> Result<AnyArray, Error>
     ensures answer { Answers any_column result (negative_answer (any_column array.now)) }
 {
-    match array {
-        AnyArray::Int8(array) => Ok(AnyArray::Int8(negative(alloc, array)?)),
-        AnyArray::Int16(array) => Ok(AnyArray::Int16(negative(alloc, array)?)),
-        AnyArray::Int32(array) => Ok(AnyArray::Int32(negative(alloc, array)?)),
-        AnyArray::Int64(array) => Ok(AnyArray::Int64(negative(alloc, array)?)),
-        AnyArray::Int128(array) => Ok(AnyArray::Int128(negative(alloc, array)?)),
-        AnyArray::DaysMs(array) => Ok(AnyArray::DaysMs(negative(alloc, array)?)),
-        AnyArray::MonthDayNano(array) => Ok(AnyArray::MonthDayNano(negative(alloc, array)?)),
-        array => {
-            // The type tells the prover that it has no sign.
-            let _data_type = array.data_type();
-            Err(Error::NotYetImplemented)
-        }
+    if !can_neg(array.data_type()) {
+        return Err(Error::NotYetImplemented);
     }
+    with_typed!(
+        AnyArray,
+        array,
+        |array| Ok(AnyArray::from(negative(alloc, array)?))
+    )
 }
 
-// The negative of each slot of an array whose values have a sign.
+// The negative of each slot of an array whose values have one.
 fn negative<T: NativeNegate>(
     alloc: Global,
     array: &PrimitiveArray<T>,
 ) -> Result<PrimitiveArray<T>, Error>
-    requires { IsTrue (has_negative T.PRIMITIVE) }
+    requires { IsTrue (is_negatable (column_of array.now).data_type) }
     ensures { Answers column_of result (negative_answer (column_of array.now)) }
 {
+    // The type tells the prover the fields of the values.
     let _data_type = array.data_type();
     negate(alloc, array)
 }
 
-/// Whether `add` takes arrays of the two types.
+/// Whether `add` takes arrays of the two types: exactly where both are one of the eight types of
+/// whole numbers of 8 to 64 bits, the same one.
 pub fn can_add(lhs: &DataType, rhs: &DataType) -> bool
     ensures range { IsTrue result ↔ IsSome (entry_of Add (kind_of lhs.now) (kind_of rhs.now)) }
 {
     Rule::of(Op::Add, lhs, rhs).is_some()
 }
 
-/// Whether `sub` takes arrays of the two types.
+/// Whether `sub` takes arrays of the two types: exactly where both are one of the eight types of
+/// whole numbers of 8 to 64 bits, the same one.
 pub fn can_sub(lhs: &DataType, rhs: &DataType) -> bool
     ensures range { IsTrue result ↔ IsSome (entry_of Sub (kind_of lhs.now) (kind_of rhs.now)) }
 {
     Rule::of(Op::Sub, lhs, rhs).is_some()
 }
 
-/// Whether `mul` takes arrays of the two types.
+/// Whether `mul` takes arrays of the two types: exactly where both are one of the eight types of
+/// whole numbers of 8 to 64 bits, the same one.
 pub fn can_mul(lhs: &DataType, rhs: &DataType) -> bool
     ensures range { IsTrue result ↔ IsSome (entry_of Mul (kind_of lhs.now) (kind_of rhs.now)) }
 {
     Rule::of(Op::Mul, lhs, rhs).is_some()
 }
 
-/// Whether `div` takes arrays of the two types.
+/// Whether `div` takes arrays of the two types: exactly where both are one of the eight types of
+/// whole numbers of 8 to 64 bits, the same one.
 pub fn can_div(lhs: &DataType, rhs: &DataType) -> bool
     ensures range { IsTrue result ↔ IsSome (entry_of Div (kind_of lhs.now) (kind_of rhs.now)) }
 {
     Rule::of(Op::Div, lhs, rhs).is_some()
 }
 
-/// Whether `rem` takes arrays of the two types.
+/// Whether `rem` takes arrays of the two types: exactly where both are one of the eight types of
+/// whole numbers of 8 to 64 bits, the same one.
 pub fn can_rem(lhs: &DataType, rhs: &DataType) -> bool
     ensures range { IsTrue result ↔ IsSome (entry_of Rem (kind_of lhs.now) (kind_of rhs.now)) }
 {
     Rule::of(Op::Rem, lhs, rhs).is_some()
 }
 
-/// Whether `neg` takes arrays of the type: it is carried, and its values are stored as numbers with a
-/// sign or as intervals.
+/// Whether `neg` takes arrays of the type: exactly where it is carried, and its values are stored
+/// as numbers with a sign, or as intervals with several fields.
 pub fn can_neg(data_type: &DataType) -> bool
     ensures range { result ≡ is_negatable (kind_of data_type.now) }
 {
     data_type.is_carried()
         && match data_type.to_physical_type() {
-            PhysicalType::Primitive(native) => is_signed(native),
+            PhysicalType::Primitive(native) => has_negatives(native),
             _ => false,
         }
 }
 
 // Whether values of a native type have a negative.
-fn is_signed(native: PrimitiveType) -> bool
+fn has_negatives(native: PrimitiveType) -> bool
     ensures { result ≡ has_negative native }
 {
     match native {
+        PrimitiveType::Int8
+        | PrimitiveType::Int16
+        | PrimitiveType::Int32
+        | PrimitiveType::Int64
+        | PrimitiveType::Int128
+        | PrimitiveType::DaysMs
+        | PrimitiveType::MonthDayNano => true,
         PrimitiveType::UInt8
         | PrimitiveType::UInt16
         | PrimitiveType::UInt32
         | PrimitiveType::UInt64 => false,
-        _ => true,
     }
 }

@@ -49,8 +49,9 @@ macro_rules! with_whole {
 
 /// A step on two columns, row by row.
 ///
-/// Refused, in this order: `NotYetImplemented` where the step does not take the operands' types; as
-/// the kernel refuses.
+/// Refused, in this order: `NotYetImplemented` exactly where the step does not take the operands'
+/// types; `Lengths` exactly where the columns differ in length; the cause of the least row that
+/// the step refuses.
 pub fn step(alloc: Global, op: Op, lhs: &AnyArray, rhs: &AnyArray) -> Result<AnyArray, Error>
     ensures { Answers any_column result (step_answer op (any_column lhs.now) (any_column rhs.now)) }
 {
@@ -62,8 +63,8 @@ pub fn step(alloc: Global, op: Op, lhs: &AnyArray, rhs: &AnyArray) -> Result<Any
 
 /// A step on a column and one value, row by row.
 ///
-/// Refused, in this order: `NotYetImplemented` where the step does not take the operands' types; as
-/// the kernel refuses. No row is refused beside a null.
+/// Refused, in this order: `NotYetImplemented` exactly where the step does not take the operands'
+/// types; the cause of the least row that the step refuses. No row is refused beside a null.
 pub fn step_scalar(
     alloc: Global,
     op: Op,
@@ -124,6 +125,7 @@ fn native_step<T: NativeArithmetics>(
         ≡ Some WholeNumbers }
     ensures { Answers column_of result (step_answer op (column_of lhs.now) (column_of rhs.now)) }
 {
+    // The type tells the prover the numbers of the native type.
     let _data_type = lhs.data_type();
     kernel(alloc, op, lhs, rhs)
 }
@@ -139,6 +141,7 @@ fn native_step_scalar<T: NativeArithmetics>(
     ensures { Answers column_of result (scalar_step_answer op (column_of lhs.now)
         rhs.now.data_type (slot_cell rhs.now.slot)) }
 {
+    // The type tells the prover the numbers of the native type.
     let _data_type = lhs.data_type();
     match rhs.value() {
         Some(number) => kernel_scalar(alloc, op, lhs, &number),

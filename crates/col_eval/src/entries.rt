@@ -2,6 +2,7 @@
 ghost use Rattle.std.specs.Prelude.{◌≡◌};
 ghost use Rattle.col_types.specs.Answer.{Answers};
 ghost use Rattle.col_types.specs.DataKind.{DataKind, kind_of};
+ghost use Rattle.col_eval.specs.declared.expr.Op.{Op};
 ghost use Rattle.col_eval.specs.Entries.{entry_by, rule_of};
 
 use crate::expr::Op;
@@ -9,7 +10,7 @@ use col_types::{DataType, Error};
 use std::alloc::Global;
 
 /// A rule by which steps work on operands of some types.
-#[derive(Clone, Copy, Debug, PartialEq, Eq)]
+#[derive(Clone, Copy)]
 pub enum Rule {
     /// Two whole numbers of one type give one of that type.
     WholeNumbers,
@@ -33,25 +34,19 @@ impl Rule {
         }
     }
 
-    /// Whether the right operand of the step may be a literal of a tree.
-    pub fn takes_literal(self, _op: Op) -> bool
-        ensures { (s t : DataKind) → result ≡ (entry_by self _op s t).takes_literal }
+    /// Whether the right operand of a step by the rule may be a literal of a tree.
+    pub fn takes_literal(self) -> bool
+        ensures { (op : Op) (s t : DataKind) → result ≡ (entry_by self op s t).takes_literal }
     {
         match self {
             Rule::WholeNumbers => true,
         }
     }
 
-    /// The type that the step gives for operands of two types that it takes.
-    pub fn answer_type(
-        self,
-        alloc: Global,
-        _op: Op,
-        lhs: &DataType,
-        _rhs: &DataType,
-    ) -> Result<DataType, Error>
-        ensures { Answers kind_of result
-            (entry_by self _op (kind_of lhs.now) (kind_of _rhs.now)).answer_type }
+    /// The type that a step by the rule gives for a left operand of a type.
+    pub fn answer_type(self, alloc: Global, lhs: &DataType) -> Result<DataType, Error>
+        ensures { (op : Op) (t : DataKind)
+            → Answers kind_of result (entry_by self op (kind_of lhs.now) t).answer_type }
     {
         match self {
             Rule::WholeNumbers => lhs.try_clone(alloc),

@@ -2,7 +2,8 @@
 use col_array::AnyScalar;
 
 /// The steps of a tree: an operation, in a form that says what becomes of a row whose exact number
-/// does not fit. A quotient goes toward zero, and a remainder has the dividend's sign.
+/// does not fit, or that has none. A null beside anything gives null. A quotient goes toward zero,
+/// and a remainder has the dividend's sign.
 #[derive(Clone, Copy, Debug, PartialEq, Eq)]
 pub enum Op {
     /// The sum; a row whose sum does not fit is refused.

@@ -1,8 +1,8 @@
 //! What the definitions say together, each law as a function that does nothing.
 ghost use Rattle.col_eval.specs.Laws.{OutcomeDependsOnCellsAlone, OutcomeHoldsItsCells};
 ghost use Rattle.col_eval.specs.Laws.{OutcomeIsTheLeastRefusal, OutcomesOfPartsJoin};
-ghost use Rattle.col_eval.specs.Laws.{RefusalNamesItsStep, TableRefusalIsOfItsFirstStep};
-ghost use Rattle.col_eval.specs.Laws.{UnrefusedTablesHaveColumns};
+ghost use Rattle.col_eval.specs.Laws.{RefusalNamesItsStep, StepsOfTypedTreesHaveTypes};
+ghost use Rattle.col_eval.specs.Laws.{TableRefusalIsOfItsFirstStep, UnrefusedTablesHaveColumns};
 
 /// A table's outcome is the refusal of the least step, and of those of one step that of the least
 /// row; without a refusal it has the cell of each row, in their order.
@@ -28,9 +28,14 @@ pub fn outcome_holds_its_cells()
 
 /// Over a table whose rows are those of an upper table and then those of a lower one, a tree gives
 /// the upper table's cells followed by the lower one's; else, of the refusals of both, the one at
-/// the lesser step, and at one step the upper table's.
+/// the lesser step, and at one step the upper table's. Such a table may be a part again.
 pub fn outcomes_of_parts_join()
     ensures { OutcomesOfPartsJoin }
+{}
+
+/// Each step of a tree that has a type has one, as a tree of its own.
+pub fn steps_of_typed_trees_have_types()
+    ensures { StepsOfTypedTreesHaveTypes }
 {}
 
 /// The refusal of a table is that of the first of a tree's steps that, as a tree of its own, is

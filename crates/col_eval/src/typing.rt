@@ -83,9 +83,7 @@ fn step_type(
         (entry_type is_literal (entry_of op (kind_of lhs.now) (kind_of rhs.now))) }
 {
     match Rule::of(op, lhs, rhs) {
-        Some(rule) if !is_literal || rule.takes_literal(op) => {
-            rule.answer_type(alloc, op, lhs, rhs)
-        }
+        Some(rule) if !is_literal || rule.takes_literal() => rule.answer_type(alloc, lhs),
         _ => Err(Error::NotYetImplemented),
     }
 }

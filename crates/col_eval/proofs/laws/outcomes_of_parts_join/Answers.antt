@@ -1,5 +1,5 @@
-use Rattle.col_eval.proofs.SplitLemmas.{outcome_of-stacked}
+use Rattle.col_eval.proofs.SplitLemmas.{joins_parts}
 use Rattle.col_eval.proofs.laws.outcomes_of_parts_join.Goals as goal
 
 pub returns : goal.returns
-returns c = outcome_of-stacked
+returns c = joins_parts
