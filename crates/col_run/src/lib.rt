@@ -8,6 +8,6 @@ mod status;
 mod transfer;
 
 pub use command::run;
-pub use sink::{MemorySink, Sink, WriteSink};
-pub use source::{Failed, ReadSource, Source, SteadySource};
+pub use sink::{CountingSink, MemorySink, Sink, WriteSink};
+pub use source::{Failed, MemorySource, ReadSource, Source, SteadySource};
 pub use status::{Status, status_text};
