@@ -4,4 +4,6 @@ pub mod Streams
 pub mod SourceState
 pub mod SinkState
 pub mod Status
+pub mod Command
 pub mod Run
+pub mod Laws

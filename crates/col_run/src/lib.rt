@@ -2,10 +2,12 @@
 #![tactic(auto)]
 
 mod command;
+pub mod laws;
 mod sink;
 mod source;
 mod status;
 mod transfer;
+mod words;
 
 pub use command::run;
 pub use sink::{CountingSink, MemorySink, Sink, WriteSink};
