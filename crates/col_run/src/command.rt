@@ -30,12 +30,11 @@ pub fn run<S: Source, K: Sink>(
     sink: &mut K,
 ) -> Status
     ensures page { WritesPage (command_of words.now) result
-        (S.left source.old) (S.left source.new) K.written sink.old sink.new }
+        S.left source.old source.new K.written sink.old sink.new }
     ensures wrong_words { (result ≡ Words) ↔ (command_of words.now ≡ None) }
     ensures malformed { result ≡ Malformed → HasInput (command_of words.now)
-        (S.left source.old) (S.left source.new) (λ made. made ≡ None) }
-    ensures too_long { TakesWithin (command_of words.now) result
-        (S.left source.old) (S.left source.new) }
+        S.left source.old source.new (λ made. made ≡ None) }
+    ensures too_long { TakesWithin (command_of words.now) result S.left source.old source.new }
     ensures read_fault { result ≡ ReadFault
         → FaultsRose (S.faults source.old) (S.faults source.new) }
     ensures write_fault { result ≡ WriteFault → FaultsRose (K.faults sink.old) (K.faults sink.new) }
@@ -60,9 +59,9 @@ pub fn run<S: Source, K: Sink>(
 // The page of a command, of what the source has left, or the status that says why there is none.
 fn page_for<S: Source>(alloc: Global, command: Command, source: &mut S) -> Result<Page, Status>
     ensures page { IfOk result (λ page. HasInput (Some command)
-        (S.left source.old) (S.left source.new) (λ made. made ≡ Some page)) }
-    ensures stopped { IfErr result (IsStopped (Some command)
-        (S.left source.old) (S.left source.new) (S.faults source.old) (S.faults source.new)) }
+        S.left source.old source.new (λ made. made ≡ Some page)) }
+    ensures refused { IfErr result (IsStopped (Some command) S.left source.old source.new
+        (FaultsRose (S.faults source.old) (S.faults source.new))) }
 {
     let bytes = match read_all(alloc, source) {
         Ok(bytes) => bytes,

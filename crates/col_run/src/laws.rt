@@ -9,9 +9,10 @@ use crate::source::Source;
 use crate::status::Status;
 use std::alloc::Global;
 
-/// Runs the command of the words, as `run` does. Over a source that tells its bytes, where neither
-/// count of faults rose, the status is the one that words and bytes say, or `Memory`: so words that
-/// are a command and bytes within the limit that have a page end with `Done` or `Refused`.
+/// Runs the command of the words, as `run` does. Where the source tells its bytes, or is not to be
+/// read, and neither count of faults rose, the status is the one that the words and these bytes say,
+/// or `Memory`: so words that are a command, and bytes within the limit for which it has a page, end
+/// with `Done` or `Refused`.
 pub fn a_run_without_faults_ends_by_its_input<S: Source, K: Sink>(
     alloc: Global,
     words: &[String],

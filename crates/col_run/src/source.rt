@@ -88,7 +88,7 @@ impl Source for SteadySource {
     }
 }
 
-/// Bytes in memory, of which a call moves some, and which fails at chosen calls.
+/// Bytes in memory, of which a call moves no more than a step. It fails at chosen calls.
 #[derive(Drop)]
 pub struct MemorySource {
     bytes: SteadySource,
