@@ -22,7 +22,9 @@ use std::alloc::Global;
 /// It ends, in this order, with `Words` where the words are no command; `ReadFault` where the
 /// source failed; `TooLong` where it has more than 67108864 bytes; `Malformed` where they are no
 /// document; `WriteFault` where the sink failed; else with `Refused` where some line is an error
-/// line, and `Done` where none is. `Memory` may come at any point before the writing.
+/// line, and `Done` where none is. `Memory` may come at any point before the writing. `WriteFault`
+/// leaves a front of the page in the sink, each earlier ending leaves the sink as it was, and
+/// `Words` the source too.
 pub fn run<S: Source, K: Sink>(
     alloc: Global,
     words: &[String],
