@@ -14,12 +14,12 @@ fn read_status(alloc: Global, step: usize, fails: Option<usize>) -> Result<(Stat
 
 #[test]
 fn a_read_that_fails_once_ends_the_run(rt: HostRuntime) -> Result<(), Error> {
-    // the document has 59 bytes: six reads of ten and one that finds the end
-    for fails in 0..7 {
+    // the document has 70 bytes: seven reads of ten and one that finds the end
+    for fails in 0..8 {
         let answer = read_status(rt.alloc(), 10, Some(fails))?;
         assert_eq!(rt; answer, (Status::ReadFault, 0), "at read {fails}");
     }
-    for (step, fails) in [(10, Some(7)), (10, None), (1, None), (64, Some(2))] {
+    for (step, fails) in [(10, Some(8)), (10, None), (1, None), (64, Some(3))] {
         let answer = read_status(rt.alloc(), step, fails)?;
         assert_eq!(rt; answer, (Status::Done, 9), "{step} bytes a read");
     }
@@ -93,43 +93,34 @@ fn a_writer_that_takes_nothing_ends_the_run(rt: HostRuntime) -> Result<(), Error
 // The status of a run over a sink in memory, and whether what it has is this.
 fn memory_status(
     alloc: Global,
-    mut sink: MemorySink,
+    room: usize,
+    step: usize,
     wanted: &[u8],
 ) -> Result<(Status, bool), Error> {
+    let mut sink = MemorySink::new(alloc, room, step, Vec::new(alloc))?;
     let mut source = SteadySource::new(Vec::from_slice(alloc, DOCUMENT.as_bytes())?);
     let status = evaluated(alloc, &mut source, &mut sink)?;
     Ok((status, sink.bytes() == wanted))
 }
 
 #[test]
-fn a_sink_in_memory_fails_at_its_calls_and_past_its_room(rt: HostRuntime) -> Result<(), Error> {
-    // the room, the bytes a call, the calls that fail, and what is written
+fn a_sink_in_memory_fails_past_its_room(rt: HostRuntime) -> Result<(), Error> {
+    // the room, the bytes a call, and what is written
     let cases = [
-        (64, 4, [9, 9], "Int64 []\n"),
-        (64, 0, [9, 9], "Int64 []\n"),
-        (9, 9, [9, 9], "Int64 []\n"),
-        (8, 4, [9, 9], "Int64 []"),
-        (0, 4, [9, 9], ""),
-        (64, 4, [0, 9], ""),
-        (64, 4, [1, 9], "Int6"),
-        (64, 4, [7, 2], "Int64 []"),
-        (64, 4, [3, 9], "Int64 []\n"),
+        (64, 0, "Int64 []\n"),
+        (9, 9, "Int64 []\n"),
+        (8, 4, "Int64 []"),
+        (0, 4, ""),
     ];
-    for (room, step, fails, written) in cases {
+    for (room, step, written) in cases {
         let is_done = written.len() == 9;
         let status = if is_done {
             Status::Done
         } else {
             Status::WriteFault
         };
-        let fails = Vec::from_slice(rt.alloc(), &fails)?;
-        let sink = MemorySink::new(rt.alloc(), room, step, fails)?;
-        let answer = memory_status(rt.alloc(), sink, written.as_bytes())?;
-        assert_eq!(rt;
-            answer,
-            (status, true),
-            "room {room}, step {step}, {written}"
-        );
+        let answer = memory_status(rt.alloc(), room, step, written.as_bytes())?;
+        assert_eq!(rt; answer, (status, true), "room {room}, step {step}");
     }
     Ok(())
 }

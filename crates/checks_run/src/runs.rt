@@ -3,7 +3,8 @@ ghost use Rattle.std.specs.Prelude.{ℕ, List, Option, None};
 
 use crate::streams::{Choking, DOCUMENT, Stuttering, evaluated, wide_sink};
 use col_run::{
-    Failed, ReadSource, Sink, Source, Status, SteadySource, WriteSink, run, status_text,
+    CountingSink, Failed, MemorySource, ReadSource, Sink, Source, Status, SteadySource, WriteSink,
+    run, status_text,
 };
 use col_types::Error;
 use std::alloc::Global;
@@ -91,7 +92,7 @@ fn passed_on(
 
 #[test]
 fn short_reads_and_writes_pass_on_the_content(rt: HostRuntime) -> Result<(), Error> {
-    for (read, write) in [(1, 1), (2, 3), (7, 8), (58, 9), (59, 64)] {
+    for (read, write) in [(1, 1), (2, 3), (7, 8), (69, 9), (70, 64)] {
         let reader = Stuttering::new(read, None);
         let writer = Choking::new(rt.alloc(), write, None, None);
         let answer = passed_on(rt.alloc(), reader, writer, b"Int64 []\n")?;
@@ -122,10 +123,24 @@ fn a_source_gives_its_bytes_in_their_order(rt: HostRuntime) -> Result<(), Error>
         let mut steady = SteadySource::new(Vec::from_slice(rt.alloc(), text.as_bytes())?);
         assert_eq!(rt; first_read(&mut steady), (first, Ok(count)), "{text}");
         assert_eq!(rt; first_read(&mut steady), (second, Ok(rest)), "{text}");
+        let bytes = Vec::from_slice(rt.alloc(), text.as_bytes())?;
+        let mut memory = MemorySource::new(bytes, 9, Vec::new(rt.alloc()));
+        assert_eq!(rt; first_read(&mut memory), (first, Ok(count)), "{text}");
+        assert_eq!(rt; first_read(&mut memory), (second, Ok(rest)), "{text}");
         let mut reader = ReadSource::new(text.as_bytes());
         assert_eq!(rt; first_read(&mut reader), (first, Ok(count)), "{text}");
         assert_eq!(rt; first_read(&mut reader), (second, Ok(rest)), "{text}");
     }
+    Ok(())
+}
+
+#[test]
+fn a_sink_that_counts_has_the_length_of_the_page(rt: HostRuntime) -> Result<(), Error> {
+    let bytes = Vec::from_slice(rt.alloc(), DOCUMENT.as_bytes())?;
+    let mut source = MemorySource::new(bytes, 0, Vec::new(rt.alloc()));
+    let mut sink = CountingSink::new();
+    let status = evaluated(rt.alloc(), &mut source, &mut sink)?;
+    assert_eq!(rt; (status, sink.count()), (Status::Done, 9));
     Ok(())
 }
 

@@ -5,8 +5,9 @@ use std::alloc::Global;
 use std::io;
 use std::io::{ErrorKind, Read, Write};
 
-/// A document whose page is `Int64 []` and an end of line, nine bytes.
-pub(crate) const DOCUMENT: &str = r#"{"columns":[{"type":"Int64","values":[]}],"trees":[["c0"]]}"#;
+/// A document of 70 bytes whose page is `Int64 []` and an end of line, nine bytes.
+pub(crate) const DOCUMENT: &str =
+    r#"{"columns":[{"type":"Int64","values":[]}],"trees":[["c0","c0","add"]]}"#;
 
 /// A reader of a text, so many bytes a call; the call with the number `fails`, from 0, fails.
 #[derive(Drop)]

@@ -1,2 +1,1 @@
 pub mod StreamsLemmas
-pub mod RunLemmas

@@ -1,18 +1,9 @@
 -- What calls take from the front of a list, and what they add to an end.
 use Rattle.std.proofs.Common.{◌≡◌, ℕ, ◌+◌, ◌≤◌, List, ◌++◌, length, take, drop, Option, Some}
 use Rattle.std.proofs.Common.{None, sym, ◌∙◌, ap, subst, arith, append_assoc, length-append}
-use Rattle.std.proofs.Common.{take-append-drop}
-use Rattle.std.proofs.lemmas.List.{take_at, take-take, drop-drop, length-take-le}
+use Rattle.std.proofs.lemmas.List.{take-take, length-take-le}
 use Rattle.std.proofs.Math.Seq.{take-add}
 use Rattle.col_run.specs.Streams.{TakesFront, AddsBytes}
-
--- a cut of a list that was laid at the front of another is, with what follows it, the list
-pub moved_front : (xs ys moved : List ℕ) (p k : ℕ) → moved ≡ take k (drop p xs) → length moved ≡ k
-    → drop p xs ≡ take k (moved ++ ys) ++ drop (p + k) xs
-moved_front xs ys moved p k is long =
-    sym (take-append-drop k (drop p xs))
-    ∙ ap (λ (l : List ℕ). l ++ drop k (drop p xs)) (sym is ∙ sym (take_at moved ys k long))
-    ∙ ap (λ (l : List ℕ). take k (moved ++ ys) ++ l) (drop-drop k p xs)
 
 -- two fronts, one after the other, are one
 pub takes_more : (old mid new : Option (List ℕ)) (xs ys : List ℕ)

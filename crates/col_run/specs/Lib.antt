@@ -1,6 +1,9 @@
 pub use Rattle.col_document.specs.Document
 pub use Rattle.col_page.specs.Page
 pub mod Streams
+pub mod SourceState
 pub mod SinkState
 pub mod Status
+pub mod Command
 pub mod Run
+pub mod Laws

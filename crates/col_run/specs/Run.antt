@@ -1,96 +1,92 @@
 -- What each status of a run tells: of the bytes that were taken, and of those that were written.
-use Rattle.std.specs.Prelude.{◌≡◌, ℕ, ◌+◌, ◌≤◌, Bool, true, false, List, [], ◌∷◌, length, map}
-use Rattle.std.specs.Prelude.{codes, string_bytes, String, Option, Some, None, ⊤}
-use Rattle.std.specs.declared.alloc.Global.{Global}
-use Rattle.col_document.specs.Document.{DocumentView, document_of}
-use Rattle.col_run.specs.Streams.{AddsBytes, AddsFront, FaultsRose, TakesAtMost, TakesCount}
-use Rattle.col_page.specs.Page.{has_error_line, page_text}
+use Rattle.std.specs.Prelude.{◌≡◌, ℕ, ◌+◌, ◌≤◌, Bool, true, false, List, [], length}
+use Rattle.std.specs.Prelude.{Option, Some, None, ⊤}
+use Rattle.col_run.specs.Streams.{AddsBytes, AddsFront, TakesAll, TakesAtMost}
+use Rattle.col_run.specs.Streams.{TakesCount}
+use Rattle.col_run.specs.Command.{page_of_command, reads_source}
 use Rattle.col_page.specs.PageView.{PageView}
+use Rattle.col_run.specs.declared.words.Command.{Command}
 use Rattle.col_run.specs.declared.status.Status.{Status}
 use Rattle.col_run.specs.declared.status.Status.TheVariants.{Done, Refused, Malformed, ReadFault}
-use Rattle.col_run.specs.declared.status.Status.TheVariants.{WriteFault, Memory, TooLong, Words}
+use Rattle.col_run.specs.declared.status.Status.TheVariants.{WriteFault, Memory, TooLong}
 
 -- the most bytes that a document has: 64 mebibytes
 abbrev pub max_bytes : ℕ
 max_bytes = 67108864
 
--- the words are those of the command that evaluates a document
-abbrev pub IsEval : List (String Global) → Type 0
-IsEval words = map string_bytes words ≡ codes "eval" ∷ []
+-- bytes within the limit were all that was left, and the fact holds of them
+pub record ReadsAll (left rest : Option (List ℕ)) (fact : List ℕ → Type 0) : Type 0 where
+  pub bytes : List ℕ
+  pub short : length bytes ≤ max_bytes
+  pub taken : TakesAll left bytes rest
+  pub holds : fact bytes
 
--- what was left was read to its end, and the fact holds of it, where it is told
-abbrev pub ReadsAll : Option (List ℕ) → Option (List ℕ) → (List ℕ → Type 0) → Type 0
-ReadsAll None rest fact = rest ≡ None
-ReadsAll (Some bytes) rest fact = (length bytes ≤ max_bytes) × (rest ≡ Some []) × fact bytes
+-- the fact holds of all that a source had left or, where it was not to be read and is as it was,
+-- of no bytes
+abbrev pub ReadsWhere : {S : Type 0} → Bool → (S → Option (List ℕ)) → S → S
+    → (List ℕ → Type 0) → Type 0
+ReadsWhere true left old new fact = ReadsAll (left old) (left new) fact
+ReadsWhere false left old new fact = (new ≡ old) × fact []
 
--- the bytes are a document; its page, and nothing else, was written, and the flag tells
--- whether some line is an error line
+-- a command took its input, and the fact holds of the page of it, or of its having none
+abbrev pub HasInput : {S : Type 0} → Option Command → (S → Option (List ℕ)) → S → S
+    → (Option PageView → Type 0) → Type 0
+HasInput None left old new fact = ⊥
+HasInput (Some c) left old new fact =
+    ReadsWhere (reads_source c) left old new (λ bytes. fact (page_of_command c bytes))
+
+-- there is a page; it, and nothing else, was written, and the flag tells whether some line of it
+-- is an error line
 pub record IsDelivered (old new : Option (List ℕ)) (has_error : Bool)
-    (bytes : List ℕ) : Type 0 where
-  pub read : DocumentView
-  pub is_document : document_of bytes ≡ Some read
-  pub page : AddsBytes old (page_text read) new
-  pub error : has_error_line read ≡ has_error
+    (made : Option PageView) : Type 0 where
+  pub page : PageView
+  pub is_made : made ≡ Some page
+  pub written : AddsBytes old page.text new
+  pub error : page.has_error ≡ has_error
 
--- the bytes are a document; some front of its page, and nothing else, was written
-pub record IsBroken (old new : Option (List ℕ)) (bytes : List ℕ) : Type 0 where
-  pub read : DocumentView
-  pub is_document : document_of bytes ≡ Some read
-  pub page : AddsFront old (page_text read) new
+-- there is a page; some front of it, and nothing else, was written
+pub record IsBroken (old new : Option (List ℕ)) (made : Option PageView) : Type 0 where
+  pub page : PageView
+  pub is_made : made ≡ Some page
+  pub written : AddsFront old page.text new
 
--- what was written: the page of the document that was read, a front of it where writing
--- failed, and else nothing
-abbrev pub WritesPage : Status → Option (List ℕ) → Option (List ℕ) → Option (List ℕ)
-    → Option (List ℕ) → Type 0
-WritesPage Done left rest old new = ReadsAll left rest (IsDelivered old new false)
-WritesPage Refused left rest old new = ReadsAll left rest (IsDelivered old new true)
-WritesPage WriteFault left rest old new = ReadsAll left rest (IsBroken old new)
-WritesPage Malformed left rest old new = new ≡ old
-WritesPage ReadFault left rest old new = new ≡ old
-WritesPage Memory left rest old new = new ≡ old
-WritesPage TooLong left rest old new = new ≡ old
-WritesPage Words left rest old new = new ≡ old
+-- what a run wrote, by its source and its sink before and after it: the page of the input, a front
+-- of it where writing failed, and else nothing, so that the sink is as it was
+abbrev pub WritesPage : {S K : Type 0} → Option Command → Status → (S → Option (List ℕ)) → S → S
+    → (K → Option (List ℕ)) → K → K → Type 0
+WritesPage command Done left before after written old new =
+    HasInput command left before after (IsDelivered (written old) (written new) false)
+WritesPage command Refused left before after written old new =
+    HasInput command left before after (IsDelivered (written old) (written new) true)
+WritesPage command WriteFault left before after written old new =
+    HasInput command left before after (IsBroken (written old) (written new))
+WritesPage command _ left before after written old new = new ≡ old
 
--- where it is malformed, the whole input was read and is no document
-abbrev pub MalformedWhere : Status → Option (List ℕ) → Option (List ℕ) → Type 0
-MalformedWhere Malformed left rest = ReadsAll left rest (λ bytes. document_of bytes ≡ None)
-MalformedWhere Done left rest =
-    ReadsAll left rest (λ bytes. (d : DocumentView) × (document_of bytes ≡ Some d))
-MalformedWhere Refused left rest =
-    ReadsAll left rest (λ bytes. (d : DocumentView) × (document_of bytes ≡ Some d))
-MalformedWhere WriteFault left rest =
-    ReadsAll left rest (λ bytes. (d : DocumentView) × (document_of bytes ≡ Some d))
-MalformedWhere ReadFault left rest = ⊤
-MalformedWhere Memory left rest = ⊤
-MalformedWhere TooLong left rest = ⊤
-MalformedWhere Words left rest = ⊤
+-- how many bytes were taken where the input was not taken whole: one past the limit where it is
+-- too long, at most as many as the limit where reading failed; want of memory may come in front
+-- of either, and a source that was not to be read is as it was
+abbrev pub TakesPart : {S : Type 0} → Bool → Status → (S → Option (List ℕ)) → S → S → Type 0
+TakesPart true TooLong left old new = TakesCount (left old) (max_bytes + 1) (left new)
+TakesPart true ReadFault left old new = TakesAtMost (left old) max_bytes (left new)
+TakesPart true Memory left old new = TakesAtMost (left old) (max_bytes + 1) (left new)
+TakesPart true _ left old new = ⊤
+TakesPart false TooLong left old new = ⊥
+TakesPart false ReadFault left old new = ⊥
+TakesPart false _ left old new = new ≡ old
 
--- how many bytes were taken: one past the limit where the input is too long, else at most as
--- many as the limit;
--- want of memory may come in front of that answer, and wrong words take nothing
-abbrev pub TakesWithin : Status → Option (List ℕ) → Option (List ℕ) → Type 0
-TakesWithin TooLong left rest = TakesCount left (max_bytes + 1) rest
-TakesWithin Memory left rest = TakesAtMost left (max_bytes + 1) rest
-TakesWithin Words left rest = rest ≡ left
-TakesWithin Done left rest = TakesAtMost left max_bytes rest
-TakesWithin Refused left rest = TakesAtMost left max_bytes rest
-TakesWithin WriteFault left rest = TakesAtMost left max_bytes rest
-TakesWithin Malformed left rest = TakesAtMost left max_bytes rest
-TakesWithin ReadFault left rest = TakesAtMost left max_bytes rest
+-- the same of a command; where there is none, the source is as it was
+abbrev pub TakesWithin : {S : Type 0} → Option Command → Status → (S → Option (List ℕ)) → S → S
+    → Type 0
+TakesWithin None status left old new = new ≡ old
+TakesWithin (Some c) status left old new = TakesPart (reads_source c) status left old new
 
--- the page is that of the document that was left
-abbrev pub IsPageOf : Option (List ℕ) → Option (List ℕ) → PageView → Type 0
-IsPageOf left rest page =
-    (d : DocumentView) × ReadsAll left rest (λ bytes. document_of bytes ≡ Some d)
-    × (page.text ≡ page_text d) × (page.has_error ≡ has_error_line d)
-
--- why there is no page
-abbrev pub IsStopped : Option (List ℕ) → Option (List ℕ) → ℕ → ℕ → Status → Type 0
-IsStopped left rest old new Malformed = ReadsAll left rest (λ bytes. document_of bytes ≡ None)
-IsStopped left rest old new ReadFault = TakesAtMost left max_bytes rest × FaultsRose old new
-IsStopped left rest old new Memory = TakesAtMost left (max_bytes + 1) rest
-IsStopped left rest old new TooLong = TakesCount left (max_bytes + 1) rest
-IsStopped left rest old new Done = ⊥
-IsStopped left rest old new Refused = ⊥
-IsStopped left rest old new WriteFault = ⊥
-IsStopped left rest old new Words = ⊥
+-- why a command has no page, and that the source failed where it is a read fault
+abbrev pub IsStopped : {S : Type 0} → Option Command → (S → Option (List ℕ)) → S → S → Type 0
+    → Status → Type 0
+IsStopped command left old new failed Malformed =
+    HasInput command left old new (λ made. made ≡ None)
+IsStopped command left old new failed ReadFault =
+    TakesWithin command ReadFault left old new × failed
+IsStopped command left old new failed Memory = TakesWithin command Memory left old new
+IsStopped command left old new failed TooLong = TakesWithin command TooLong left old new
+IsStopped command left old new failed _ = ⊥

@@ -1,9 +1,8 @@
 -- A sink in memory: how it stands, and what a write answers and changes.
-use Rattle.std.specs.Prelude.{ℕ, ◌+◌, ◌-◌, ◌==◌, min, max, Bool, nat_lt, ◌||◌, ◌&&◌, List, []}
+use Rattle.std.specs.Prelude.{ℕ, ◌-◌, ◌==◌, min, max, Bool, nat_lt, ◌||◌, ◌&&◌, List, []}
 use Rattle.std.specs.Prelude.{◌++◌, length, take, Result, Ok, Err, if◌then◌else◌}
-use Rattle.std.specs.List.{list_any}
 use Rattle.col_run.specs.declared.source.Failed.{Failed}
-use Rattle.col_run.specs.Streams.{last_count}
+use Rattle.col_run.specs.Streams.{is_failing_call, raised_count}
 
 -- how a sink in memory stands
 pub record SinkState : Type 0 where
@@ -23,13 +22,9 @@ abbrev pub first_state : ℕ → ℕ → List ℕ → SinkState
 first_state room step fails =
     record { written = []; room = room; step = max step 1; fails = fails; calls = 0; faults = 0 }
 
--- one more, or the last number that a count reaches
-abbrev pub next_count : ℕ → ℕ
-next_count n = min (n + 1) last_count
-
 -- whether the next call fails, where its piece has so many bytes
 abbrev pub is_failing : SinkState → ℕ → Bool
-is_failing s count = list_any (λ n. n == s.calls) s.fails || (nat_lt 0 count && (s.room == 0))
+is_failing s count = is_failing_call s.fails s.calls || (nat_lt 0 count && (s.room == 0))
 
 -- how many of so many bytes a call moves, where it does not fail
 abbrev pub moved_count : SinkState → ℕ → ℕ
@@ -44,9 +39,9 @@ write_answer s piece =
 abbrev pub state_after : SinkState → List ℕ → SinkState
 state_after s piece =
     if is_failing s (length piece)
-    then record s { calls = next_count s.calls; faults = next_count s.faults }
+    then record s { calls = raised_count s.calls 1; faults = raised_count s.faults 1 }
     else record s {
-      calls = next_count s.calls;
+      calls = raised_count s.calls 1;
       written = s.written ++ take (moved_count s (length piece)) piece;
       room = s.room - moved_count s (length piece);
     }

@@ -1,8 +1,9 @@
 //! What the program does, from its words to its status.
-ghost use Rattle.std.specs.Prelude.{◌≡◌, ◌↔◌, ◌≤◌, IfOk, IfErr, IsTrue};
+ghost use Rattle.std.specs.Prelude.{◌≡◌, ◌↔◌, ◌≤◌, Some, None, IfOk, IfErr};
 ghost use Rattle.col_run.specs.Streams.{FaultsRose};
-ghost use Rattle.col_run.specs.Run.{IsEval, IsPageOf, IsStopped, MalformedWhere, TakesWithin};
-ghost use Rattle.col_run.specs.Run.{WritesPage};
+ghost use Rattle.col_run.specs.Command.{command_of, page_of_command};
+ghost use Rattle.col_document.specs.Reading.{Reads};
+ghost use Rattle.col_run.specs.Run.{HasInput, IsStopped, TakesWithin, WritesPage};
 ghost use Rattle.col_run.specs.declared.status.Status.TheVariants.{Malformed, Memory, ReadFault};
 ghost use Rattle.col_run.specs.declared.status.Status.TheVariants.{TooLong, WriteFault, Words};
 
@@ -10,6 +11,7 @@ use crate::sink::Sink;
 use crate::source::Source;
 use crate::status::Status;
 use crate::transfer::{Stop, read_all, write_all};
+use crate::words::{Command, read_command};
 use col_document::{ReadError, read_document};
 use col_page::{Page, page_of};
 use std::alloc::Global;
@@ -20,26 +22,29 @@ use std::alloc::Global;
 /// It ends, in this order, with `Words` where the words are no command; `ReadFault` where the
 /// source failed; `TooLong` where it has more than 67108864 bytes; `Malformed` where they are no
 /// document; `WriteFault` where the sink failed; else with `Refused` where some line is an error
-/// line, and `Done` where none is. `Memory` may come at any point before the writing.
+/// line, and `Done` where none is. `Memory` may come at any point before the writing. `WriteFault`
+/// leaves a front of the page in the sink, each earlier ending leaves the sink as it was, and
+/// `Words` the source too.
 pub fn run<S: Source, K: Sink>(
     alloc: Global,
     words: &[String],
     source: &mut S,
     sink: &mut K,
 ) -> Status
-    ensures page { WritesPage result (S.left source.old) (S.left source.new)
-        (K.written sink.old) (K.written sink.new) }
-    ensures wrong_words { (result ≡ Words) ↔ ¬ IsEval words.now }
-    ensures malformed { MalformedWhere result (S.left source.old) (S.left source.new) }
-    ensures too_long { TakesWithin result (S.left source.old) (S.left source.new) }
+    ensures page { WritesPage (command_of words.now) result
+        S.left source.old source.new K.written sink.old sink.new }
+    ensures wrong_words { (result ≡ Words) ↔ (command_of words.now ≡ None) }
+    ensures malformed { result ≡ Malformed → HasInput (command_of words.now)
+        S.left source.old source.new (λ made. made ≡ None) }
+    ensures too_long { TakesWithin (command_of words.now) result S.left source.old source.new }
     ensures read_fault { result ≡ ReadFault
         → FaultsRose (S.faults source.old) (S.faults source.new) }
     ensures write_fault { result ≡ WriteFault → FaultsRose (K.faults sink.old) (K.faults sink.new) }
 {
-    if !is_eval(words) {
+    let Some(command) = read_command(words) else {
         return Status::Words;
-    }
-    let page = match page_from(alloc, source) {
+    };
+    let page = match page_for(alloc, command, source) {
         Ok(page) => page,
         Err(status) => return status,
     };
@@ -53,21 +58,12 @@ pub fn run<S: Source, K: Sink>(
     }
 }
 
-// Whether the words are the one word `eval`.
-fn is_eval(words: &[String]) -> bool
-    ensures { IsTrue result ↔ IsEval words.now }
-{
-    match words {
-        [word] => word.as_str() == "eval",
-        _ => false,
-    }
-}
-
-// The page of the document that the source has left, or the status that says why there is none.
-fn page_from<S: Source>(alloc: Global, source: &mut S) -> Result<Page, Status>
-    ensures page { IfOk result (IsPageOf (S.left source.old) (S.left source.new)) }
-    ensures refused { IfErr result (IsStopped (S.left source.old) (S.left source.new)
-        (S.faults source.old) (S.faults source.new)) }
+// The page of a command, of what the source has left, or the status that says why there is none.
+fn page_for<S: Source>(alloc: Global, command: Command, source: &mut S) -> Result<Page, Status>
+    ensures page { IfOk result (λ page. HasInput (Some command)
+        S.left source.old source.new (λ made. made ≡ Some page)) }
+    ensures refused { IfErr result (IsStopped (Some command) S.left source.old source.new
+        (FaultsRose (S.faults source.old) (S.faults source.new))) }
 {
     let bytes = match read_all(alloc, source) {
         Ok(bytes) => bytes,
@@ -75,14 +71,25 @@ fn page_from<S: Source>(alloc: Global, source: &mut S) -> Result<Page, Status>
         Err(Stop::Memory) => return Err(Status::Memory),
         Err(Stop::TooLong) => return Err(Status::TooLong),
     };
-    let document = match read_document(alloc, bytes.as_slice()) {
-        Ok(document) => document,
-        Err(ReadError::Malformed) => return Err(Status::Malformed),
-        Err(ReadError::Memory) => return Err(Status::Memory),
-    };
-    drop(bytes);
-    match page_of(alloc, &document) {
+    match page_of_input(alloc, command, bytes) {
         Ok(page) => Ok(page),
-        Err(_) => Err(Status::Memory),
+        Err(ReadError::Malformed) => Err(Status::Malformed),
+        Err(ReadError::Memory) => Err(Status::Memory),
+    }
+}
+
+// The page of a command, of these bytes. The bytes go as soon as they are read.
+fn page_of_input(alloc: Global, command: Command, bytes: Vec<u8>) -> Result<Page, ReadError>
+    ensures { Reads (λ page. page) result (page_of_command command bytes.items) }
+{
+    match command {
+        Command::Eval => {
+            let document = read_document(alloc, bytes.as_slice())?;
+            drop(bytes);
+            match page_of(alloc, &document) {
+                Ok(page) => Ok(page),
+                Err(_) => Err(ReadError::Memory),
+            }
+        }
     }
 }

@@ -2,12 +2,14 @@
 #![tactic(auto)]
 
 mod command;
+pub mod laws;
 mod sink;
 mod source;
 mod status;
 mod transfer;
+mod words;
 
 pub use command::run;
-pub use sink::{MemorySink, Sink, WriteSink};
-pub use source::{Failed, ReadSource, Source, SteadySource};
+pub use sink::{CountingSink, MemorySink, Sink, WriteSink};
+pub use source::{Failed, MemorySource, ReadSource, Source, SteadySource};
 pub use status::{Status, status_text};

