@@ -1,11 +1,9 @@
 -- The cells of a document are cells of their columns' types.
-use Rattle.std.proofs.Common.{◌≡◌, ℕ, ℤ, Bool, true, false, ◌&&◌, List, Option, Some}
-use Rattle.std.proofs.Common.{None}
-use Rattle.std.proofs.Common.{refl}
+use Rattle.std.proofs.Common.{◌≡◌, ℕ, ℤ, Bool, true, false, ◌&&◌, List, [], ◌∷◌, Option, Some}
+use Rattle.std.proofs.Common.{None, ap, refl}
 use Rattle.std.specs.Prelude.{codes, option_map}
 use Rattle.std.specs.List.{list_all}
 use Rattle.std.specs.Str.{is_utf8}
-use Rattle.std.specs.Int.{w64}
 use Rattle.std.specs.Str.Parse.{signed_digits_value, without_leading_sign}
 use Rattle.std.proofs.lemmas.Bool.{and_parts}
 use Rattle.std.proofs.lemmas.Option.{cond_some, none-some, same_Some}
@@ -14,14 +12,15 @@ use Rattle.serde_json.specs.Data as json
 use Rattle.serde_json.specs.Find.{as_array, as_integer, get}
 use Rattle.serde_json.specs.Read.{read}
 use Rattle.col_model.specs.Cell.{Cell, whole}
-use Rattle.col_model.specs.Whole.{WholeType, checked_number, is_fitting, signed}
-use Rattle.col_types.specs.CellOf.{is_cell_of, is_typed_column}
+use Rattle.col_model.specs.Whole.{WholeType, checked_number, is_fitting}
+use Rattle.col_types.specs.CellOf.{is_cell_of, is_typed_column, value_fields}
 use Rattle.col_types.specs.Column.{Column}
 use Rattle.col_types.specs.DataKind.{DataKind}
 use Rattle.col_types.specs.DataKind as kind
+use Rattle.col_types.specs.DataType.{whole_type_of}
 use Rattle.col_document.specs.Document.{DocumentView, cell_read, column_read, document_of}
-use Rattle.col_document.specs.Document.{document_read, int64_read, is_digits, is_sign_had}
-use Rattle.col_document.specs.Document.{tree_read, type_read}
+use Rattle.col_document.specs.Document.{document_read, is_digits, is_sign_had, tree_read}
+use Rattle.col_document.specs.Document.{type_read, whole_read}
 use Rattle.col_document.specs.Json.{◌>>=◌, each}
 use Rattle.col_document.proofs.ListLemmas.{bind_some, option_cons-some}
 
@@ -44,29 +43,44 @@ whole-some : (o : Option ℤ) (c : Cell) → option_map whole o ≡ Some c
 whole-some None c e = absurd (none-some c e)
 whole-some (Some z) c e = (z, refl, same_Some _ c e)
 
--- a cell of 64 bits that is read
-int64_read-cell : (d : Data) (c : Cell) → int64_read d ≡ Some c → is_cell_of kind.int64 c ≡ true
-int64_read-cell json.null c e = rw (← same_Some _ c e) refl
-int64_read-cell (json.boolean b) c e = absurd (none-some c e)
-int64_read-cell (json.number n) c e =
+-- the values of a type of whole numbers have one field, of that type
+value_fields-whole : (k : DataKind) (t : WholeType) → whole_type_of k ≡ Some t
+    → value_fields k ≡ t ∷ []
+value_fields-whole kind.int8 t e = ap (λ u. u ∷ []) (same_Some _ t e)
+value_fields-whole kind.int16 t e = ap (λ u. u ∷ []) (same_Some _ t e)
+value_fields-whole kind.int32 t e = ap (λ u. u ∷ []) (same_Some _ t e)
+value_fields-whole kind.int64 t e = ap (λ u. u ∷ []) (same_Some _ t e)
+value_fields-whole kind.uint8 t e = ap (λ u. u ∷ []) (same_Some _ t e)
+value_fields-whole kind.uint16 t e = ap (λ u. u ∷ []) (same_Some _ t e)
+value_fields-whole kind.uint32 t e = ap (λ u. u ∷ []) (same_Some _ t e)
+value_fields-whole kind.uint64 t e = ap (λ u. u ∷ []) (same_Some _ t e)
+value_fields-whole _ t e = absurd (none-some t e)
+
+-- a cell of a whole-number type that is read
+whole_read-cell : (k : DataKind) (t : WholeType) (d : Data) (c : Cell) → value_fields k ≡ t ∷ []
+    → whole_read t d ≡ Some c → is_cell_of k c ≡ true
+whole_read-cell k t json.null c fields e = rw (← same_Some _ c e) refl
+whole_read-cell k t (json.boolean b) c fields e = absurd (none-some c e)
+whole_read-cell k t (json.number n) c fields e =
     let p = whole-some _ c e in
-    let q = bind_some (checked_number (signed w64)) (as_integer n) p.0 p.1 in
-    rw (← p.2) (checked-some (signed w64) q.0 p.0 q.2)
-int64_read-cell (json.string text) c e =
+    let q = bind_some (checked_number t) (as_integer n) p.0 p.1 in
+    rw (← p.2, fields) (checked-some t q.0 p.0 q.2)
+whole_read-cell k t (json.string text) c fields e =
     let p = whole-some _ c e in
-    let q = cond_some (is_sign_had (signed w64) text && is_digits (without_leading_sign text)
-    && is_fitting (signed w64) (signed_digits_value 10 text)) _ p.0 p.1 in
-    let fits = (and_parts (is_sign_had (signed w64) text && is_digits (without_leading_sign text))
-    (is_fitting (signed w64) (signed_digits_value 10 text)) q.0).1 in
-    rw (← p.2, ← q.1) fits
-int64_read-cell (json.array items) c e = absurd (none-some c e)
-int64_read-cell (json.object ms) c e = absurd (none-some c e)
+    let q = cond_some (is_sign_had t text && is_digits (without_leading_sign text)
+    && is_fitting t (signed_digits_value 10 text)) _ p.0 p.1 in
+    let fits = (and_parts (is_sign_had t text && is_digits (without_leading_sign text))
+    (is_fitting t (signed_digits_value 10 text)) q.0).1 in
+    rw (← p.2, fields, ← q.1) fits
+whole_read-cell k t (json.array items) c fields e = absurd (none-some c e)
+whole_read-cell k t (json.object ms) c fields e = absurd (none-some c e)
 
 -- a cell of a type that is read
 cell_read-cell : (t : DataKind) (d : Data) (c : Cell) → cell_read t d ≡ Some c
     → is_cell_of t c ≡ true
-cell_read-cell kind.int64 d c e = int64_read-cell d c e
-cell_read-cell _ d c e = absurd (none-some c e)
+cell_read-cell t d c e =
+    let numbers = bind_some _ (whole_type_of t) c e in
+    whole_read-cell t numbers.0 d c (value_fields-whole t numbers.0 numbers.1) numbers.2
 
 -- a column that is read
 column_read-typed : (d : Data) (c : Column) → column_read d ≡ Some c → is_typed_column c ≡ true

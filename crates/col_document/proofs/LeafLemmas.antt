@@ -10,7 +10,7 @@ use Rattle.col_eval.specs.Tree.{Tree, column, literal, level_count}
 use Rattle.col_eval.specs.Typing.{max_levels}
 use Rattle.col_document.specs.Document.{Piece, leaf, named, only_tree, with_pieces, tree_read}
 use Rattle.col_document.specs.Document.{cell_read, literal_read, piece_read, position_named}
-use Rattle.col_document.specs.Document.{step_named, type_read, word_read}
+use Rattle.col_document.specs.Document.{step_named, type_read, typed_leaf, word_read}
 use Rattle.col_document.specs.Json.{◌>>=◌, each}
 use Rattle.col_document.specs.Laws.{HaveLeaves, spelling}
 use Rattle.col_document.proofs.ListLemmas.{bind_some, option_cons-some}
@@ -36,19 +36,19 @@ word-plain text p e =
       ]
     ]
 
--- what stands where a test fails
-unless_some : {X : Type 0} (b : Bool) (x y : X) → cond b None (Some x) ≡ Some y → x ≡ y
-unless_some true x y e = absurd (none-some y e)
-unless_some false x y e = same_Some x y e
+-- what is there where a test fails
+unless_some : {X : Type 0} (b : Bool) (o : Option X) (x : X) → cond b None o ≡ Some x → o ≡ Some x
+unless_some true o x e = absurd (none-some x e)
+unless_some false o x e = e
 
 -- a literal is a plain item
 literal-plain : (d : Data) (p : Piece) → literal_read d ≡ Some p → IsPlain p
 literal-plain d p e =
-    let t = bind_some _ (type_read d) p e in
+    let own = unless_some (is_some (get (codes "cast") d)) (typed_leaf d) p e in
+    let t = bind_some _ (type_read d) p own in
     let value = bind_some _ (get (codes "value") d) p t.2 in
     let c = bind_some _ (cell_read t.0 value.0) p value.2 in
-    subst IsPlain (unless_some (is_some (get (codes "cast") d)) (leaf (literal t.0 c.0)) p c.2)
-    (refl, tt)
+    subst IsPlain (same_Some (leaf (literal t.0 c.0)) p c.2) (refl, tt)
 
 -- an item is plain
 piece-plain : (d : Data) (p : Piece) → piece_read d ≡ Some p → IsPlain p

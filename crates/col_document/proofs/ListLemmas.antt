@@ -1,5 +1,6 @@
 -- What is read of the items of a list, one after another.
-use Rattle.std.proofs.Common.{◌≡◌, List, ◌∷◌, ◌++◌, Option, Some, None, refl}
+use Rattle.std.proofs.Common.{◌≡◌, Bool, true, false, cond, List, ◌∷◌, ◌++◌, Option, Some, None}
+use Rattle.std.proofs.Common.{option_map, refl}
 use Rattle.std.proofs.lemmas.Option.{none-some, same_Some}
 use Rattle.col_model.specs.Whole.{option_cons}
 use Rattle.col_document.specs.Json.{◌>>=◌}
@@ -22,3 +23,14 @@ pub option_cons-some : {Y : Type 0} (o : Option Y) (rest : Option (List Y)) (ys 
 option_cons-some None rest ys e = absurd (none-some ys e)
 option_cons-some (Some y) None ys e = absurd (none-some ys e)
 option_cons-some (Some y) (Some zs) ys e = (y, zs, refl, refl, same_Some _ _ e)
+
+-- a value where a test holds, under a function
+pub option_map-tested : {X Y : Type 0} (f : X → Y) (b : Bool) (x : X)
+    → cond b (Some (f x)) None ≡ option_map f (cond b (Some x) None)
+option_map-tested f true x = refl
+option_map-tested f false x = refl
+
+-- a value stays under a function that gives back what it gets
+pub option_map-same : {X : Type 0} (o : Option X) → option_map (λ x. x) o ≡ o
+option_map-same None = refl
+option_map-same (Some x) = refl

@@ -8,17 +8,16 @@ use Rattle.std.proofs.lemmas.Option.{same_Some}
 use Rattle.serde_json.specs.Data.{Data, Items, no_items, item}
 use Rattle.serde_json.specs.Find.{get, as_array}
 use Rattle.serde_json.specs.Read.{read}
-use Rattle.col_model.specs.Cell.{Cell}
 use Rattle.col_types.specs.Column.{Column, is_table}
-use Rattle.col_types.specs.DataKind.{int64}
+use Rattle.col_types.specs.DataKind.{DataKind}
 use Rattle.col_eval.specs.Tree.{Tree}
 use Rattle.col_document.specs.declared.document.ReadError.{ReadError}
 use Rattle.col_document.specs.declared.document.ReadError.TheVariants.{Memory, Malformed}
 use Rattle.col_document.specs.Document.{DocumentView, column_read, document_of, document_read}
-use Rattle.col_document.specs.Document.{int64_read, tree_read, type_read}
+use Rattle.col_document.specs.Document.{cell_read, tree_read, type_read}
 use Rattle.col_document.specs.Json.{◌>>=◌, each, item_count}
-use Rattle.col_document.proofs.ListLemmas.{option_cons-some}
-use Rattle.col_document.specs.Reading.{IsUnread, Reads, only_table}
+use Rattle.col_document.proofs.ListLemmas.{option_cons-some, option_map-tested}
+use Rattle.col_document.specs.Reading.{IsUnread, Reads, column_with, only_table}
 
 -- ---- answers
 
@@ -39,7 +38,12 @@ pub Reads-same : {X Y : Type 0} (view : X → Y) (r : Result X ReadError) (a b :
     → Reads view r b → Reads view r a
 Reads-same view r a b e h = rw e h
 
--- ---- documents
+-- ---- columns and documents
+
+-- what is read on is a function of what is there
+read_on : {X Y : Type 0} (f : X → Y) (o : Option X) → (o >>= (λ x. Some (f x))) ≡ option_map f o
+read_on f None = refl
+read_on f (Some x) = refl
 
 -- as many are read as there are items
 pub length-each : {Y : Type 0} (f : Data → Option Y) (ds : Items) (ys : List Y)
@@ -49,18 +53,11 @@ length-each f (item d ds) ys e =
     let p = option_cons-some (f d) (each f ds) ys e in
     sym (ap length p.4) ∙ ap suc (length-each f ds p.1 p.3)
 
--- a value where a test holds, under a function
-option_map-tested : {X Y : Type 0} (f : X → Y) (b : Bool) (x : X)
-    → cond b (Some (f x)) None ≡ option_map f (cond b (Some x) None)
-option_map-tested f true x = refl
-option_map-tested f false x = refl
-
--- a column of numbers of 64 bits whose cells are read
-pub column_read-int64 : (d : Data) (items : Items) (cells : List Cell) → type_read d ≡ Some int64
+-- a column whose type and list are read
+pub column_read-list : (d : Data) (t : DataKind) (items : Items) → Some t ≡ type_read d
     → Some items ≡ option_and_then as_array (get (codes "values") d)
-    → each int64_read items ≡ Some cells
-    → column_read d ≡ Some (record { data_type = int64; cells = cells })
-column_read-int64 d items cells named listed read = rw (named, ← listed, read) refl
+    → column_read d ≡ column_with t (each (cell_read t) items)
+column_read-list d t items named listed = rw (← named, ← listed) (read_on _ _)
 
 -- a document of columns and trees that are read
 pub document_read-parts : (d : Data) (column_items tree_items : Items) (columns : List Column)

@@ -1,10 +1,9 @@
 -- Documents: the table and the trees that a JSON text holds.
 use Rattle.std.specs.Prelude.{ℕ, ◌^◌, ℤ, Bool, true, ◌&&◌, ◌||◌, ◌==◌, not, nat_lt, nat_le}
 use Rattle.std.specs.Prelude.{if◌then◌else◌, List, [], ◌∷◌, length, slice_index, codes, is_some}
-use Rattle.std.specs.Prelude.{Option, Some, None, option_map}
+use Rattle.std.specs.Prelude.{Option, Some, None, find, option_map}
 use Rattle.std.specs.Str.{all_ascii_digits, bytes_eq, is_utf8}
 use Rattle.std.specs.Str.Parse.{digits_value, signed_digits_value, without_leading_sign}
-use Rattle.std.specs.Int.{w64}
 use Rattle.serde_json.specs.Data.{Data}
 use Rattle.serde_json.specs.Data as json
 use Rattle.serde_json.specs.Find.{get, as_array, as_integer, as_str}
@@ -14,6 +13,7 @@ use Rattle.col_model.specs.Whole.{checked_number, WholeType, signed, unsigned, i
 use Rattle.col_types.specs.Column.{Column, is_table}
 use Rattle.col_types.specs.DataKind.{DataKind}
 use Rattle.col_types.specs.DataKind as kind
+use Rattle.col_types.specs.DataType.{whole_type_of}
 use Rattle.col_eval.specs.Tree.{Tree, column, literal, step, level_count}
 use Rattle.col_eval.specs.Typing.{max_levels}
 use Rattle.col_eval.specs.declared.expr.Op.{Op}
@@ -58,25 +58,37 @@ step_named text =
     if bytes_eq text (codes "add") then Some Add
     else (if bytes_eq text (codes "checked_add") then Some CheckedAdd else None)
 
+-- the types whose cells documents hold
+abbrev pub cell_kinds : List DataKind
+cell_kinds =
+    kind.int8
+    ∷ kind.int16
+    ∷ kind.int32
+    ∷ kind.int64
+    ∷ kind.uint8
+    ∷ kind.uint16
+    ∷ kind.uint32
+    ∷ kind.uint64
+    ∷ []
+
 -- the type of a name: of the types whose cells documents hold, the one that has the text
 abbrev pub type_named : List ℕ → Option DataKind
-type_named text = if bytes_eq text (type_text kind.int64) then Some kind.int64 else None
+type_named text = find (λ t. bytes_eq text (type_text t)) cell_kinds
 
 -- ---- cells and columns
 
--- a cell of 64 bits: null, a whole number that fits, or a text that spells one
-abbrev pub int64_read : Data → Option Cell
-int64_read json.null = Some null
-int64_read (json.boolean b) = None
-int64_read (json.number n) = option_map whole (as_integer n >>= checked_number (signed w64))
-int64_read (json.string text) = option_map whole (number_read (signed w64) text)
-int64_read (json.array items) = None
-int64_read (json.object ms) = None
+-- a cell of a whole-number type: null, a whole number that fits, or a text that spells one
+abbrev pub whole_read : WholeType → Data → Option Cell
+whole_read t json.null = Some null
+whole_read t (json.boolean b) = None
+whole_read t (json.number n) = option_map whole (as_integer n >>= checked_number t)
+whole_read t (json.string text) = option_map whole (number_read t text)
+whole_read t (json.array items) = None
+whole_read t (json.object ms) = None
 
--- a cell of a type; a type without a name has no cells
+-- a cell of a type; a type that is none of whole numbers has no cells yet
 abbrev pub cell_read : DataKind → Data → Option Cell
-cell_read kind.int64 d = int64_read d
-cell_read _ d = None
+cell_read t d = whole_type_of t >>= (λ numbers. whole_read numbers d)
 
 -- the type that the member `type` names
 abbrev pub type_read : Data → Option DataKind
@@ -97,13 +109,17 @@ pub data Piece : Type 0 where
   leaf : Tree → Piece
   named : Op → Piece
 
--- a literal: an object with a type, and a value that is a cell of it; an object with `cast` is none
-abbrev pub literal_read : Data → Option Piece
-literal_read d = do
+-- the leaf of an object with a type, and a value that is a cell of it
+abbrev pub typed_leaf : Data → Option Piece
+typed_leaf d = do
   t ← type_read d
   value ← get (codes "value") d
   c ← cell_read t value
-  if is_some (get (codes "cast") d) then None else Some (leaf (literal t c))
+  Some (leaf (literal t c))
+
+-- a literal: such an object without `cast`
+abbrev pub literal_read : Data → Option Piece
+literal_read d = if is_some (get (codes "cast") d) then None else typed_leaf d
 
 -- a text as an item: the name of a step, else that of a column
 abbrev pub word_read : List ℕ → Option Piece

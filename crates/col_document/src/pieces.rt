@@ -4,11 +4,10 @@ ghost use Rattle.serde_json.specs.View.{view};
 ghost use Rattle.col_document.specs.Document.{literal_read, piece_read, word_read};
 ghost use Rattle.col_document.specs.Reading.{piece_view};
 
-use crate::cells::{read_int64, read_type};
+use crate::cells::{read_scalar, read_type};
 use crate::texts::{read_position, read_step};
 use col_array::AnyScalar;
 use col_eval::Op;
-use col_flat::PrimitiveScalar;
 use serde_json::Value;
 
 /// An item of a tree's list.
@@ -50,13 +49,9 @@ fn read_word(text: &str) -> Option<Piece>
 fn read_literal(value: &Value) -> Option<Piece>
     ensures { option_map piece_view result ≡ literal_read (view value.now) }
 {
-    let data_type = read_type(value)?;
-    let slot = read_int64(value.get("value")?)?;
     if value.get("cast").is_some() {
         return None;
     }
-    match PrimitiveScalar::new(data_type, slot) {
-        Ok(scalar) => Some(Piece::Literal(AnyScalar::Int64(scalar))),
-        Err(_) => None,
-    }
+    let data_type = read_type(value)?;
+    Some(Piece::Literal(read_scalar(&data_type, value.get("value")?)?))
 }

@@ -1,24 +1,15 @@
 //! What the texts of a document name.
 ghost use Rattle.std.specs.Prelude.{◌≡◌, ◌&&◌, ◌||◌, ◌==◌, ◌^◌, Some, None};
-ghost use Rattle.std.specs.Prelude.{IfSome, if◌then◌else◌, length, nat_lt, not, option_map};
-ghost use Rattle.std.specs.Prelude.{slice_index};
+ghost use Rattle.std.specs.Prelude.{IfSome, IsSome, if◌then◌else◌, length, nat_lt, not};
+ghost use Rattle.std.specs.Prelude.{option_map, slice_index};
 ghost use Rattle.std.specs.Str.Parse.{digits_value};
-ghost use Rattle.std.specs.Int.{w64};
-ghost use Rattle.col_model.specs.Whole.{signed};
-ghost use Rattle.col_types.specs.DataKind.{int64, kind_of};
+ghost use Rattle.col_types.specs.DataKind.{kind_of};
+ghost use Rattle.col_types.specs.DataType.{whole_type_of};
 ghost use Rattle.col_document.specs.Document.{is_shortest, number_read, position_named};
 ghost use Rattle.col_document.specs.Document.{step_named, type_named};
 
 use col_eval::Op;
 use col_types::DataType;
-
-/// The number of 64 bits that a text spells: a sign or none, then digits; `None` where it spells
-/// none, or one that does not fit.
-pub fn read_number(text: &str) -> Option<i64>
-    ensures { result ≡ number_read (signed w64) text.now }
-{
-    text.parse::<i64>().ok()
-}
 
 /// The position that a column's name tells: `c`, then a number below 2^32 without a zero in front.
 pub fn read_position(text: &str) -> Option<u32>
@@ -44,10 +35,17 @@ pub fn read_step(text: &str) -> Option<Op>
 /// The type of a name.
 pub fn read_type_name(text: &str) -> Option<DataType>
     ensures value { option_map kind_of result ≡ type_named text.now }
-    ensures made { IfSome result (λ data_type. kind_of data_type ≡ int64) }
+    ensures made { IfSome result (λ data_type. IsSome (whole_type_of (kind_of data_type))) }
 {
     match text {
+        "Int8" => Some(DataType::Int8),
+        "Int16" => Some(DataType::Int16),
+        "Int32" => Some(DataType::Int32),
         "Int64" => Some(DataType::Int64),
+        "UInt8" => Some(DataType::UInt8),
+        "UInt16" => Some(DataType::UInt16),
+        "UInt32" => Some(DataType::UInt32),
+        "UInt64" => Some(DataType::UInt64),
         _ => None,
     }
 }

@@ -55,63 +55,63 @@ fn push_next_number<I: Integer>(text: &mut Vec<u8>, buffer: &mut Buffer, n: I) -
 impl Printed for i8 {
     #[inline(always)]
     fn push_value(self, text: &mut Vec<u8>, buffer: &mut Buffer) -> Result<(), Error> {
-        push_number(text, buffer, self)
+        push_number::<i8>(text, buffer, self)
     }
 }
 
 impl Printed for i16 {
     #[inline(always)]
     fn push_value(self, text: &mut Vec<u8>, buffer: &mut Buffer) -> Result<(), Error> {
-        push_number(text, buffer, self)
+        push_number::<i16>(text, buffer, self)
     }
 }
 
 impl Printed for i32 {
     #[inline(always)]
     fn push_value(self, text: &mut Vec<u8>, buffer: &mut Buffer) -> Result<(), Error> {
-        push_number(text, buffer, self)
+        push_number::<i32>(text, buffer, self)
     }
 }
 
 impl Printed for i64 {
     #[inline(always)]
     fn push_value(self, text: &mut Vec<u8>, buffer: &mut Buffer) -> Result<(), Error> {
-        push_number(text, buffer, self)
+        push_number::<i64>(text, buffer, self)
     }
 }
 
 impl Printed for i128 {
     #[inline(always)]
     fn push_value(self, text: &mut Vec<u8>, buffer: &mut Buffer) -> Result<(), Error> {
-        push_number(text, buffer, self)
+        push_number::<i128>(text, buffer, self)
     }
 }
 
 impl Printed for u8 {
     #[inline(always)]
     fn push_value(self, text: &mut Vec<u8>, buffer: &mut Buffer) -> Result<(), Error> {
-        push_number(text, buffer, self)
+        push_number::<u8>(text, buffer, self)
     }
 }
 
 impl Printed for u16 {
     #[inline(always)]
     fn push_value(self, text: &mut Vec<u8>, buffer: &mut Buffer) -> Result<(), Error> {
-        push_number(text, buffer, self)
+        push_number::<u16>(text, buffer, self)
     }
 }
 
 impl Printed for u32 {
     #[inline(always)]
     fn push_value(self, text: &mut Vec<u8>, buffer: &mut Buffer) -> Result<(), Error> {
-        push_number(text, buffer, self)
+        push_number::<u32>(text, buffer, self)
     }
 }
 
 impl Printed for u64 {
     #[inline(always)]
     fn push_value(self, text: &mut Vec<u8>, buffer: &mut Buffer) -> Result<(), Error> {
-        push_number(text, buffer, self)
+        push_number::<u64>(text, buffer, self)
     }
 }
 

@@ -1,11 +1,10 @@
-use Rattle.std.proofs.Common.{Some, sym, ap, ◌∙◌}
 use Rattle.serde_json.specs.View.{view}
-use Rattle.col_document.proofs.ReadingLemmas.{column_read-int64}
+use Rattle.col_array.specs.Any.{any_column}
+use Rattle.col_document.proofs.ReadingLemmas.{Reads-same, column_read-list}
 use Rattle.col_document.proofs.cells.read_column.Goals as goal
 
-pub returns-in-Ok : goal.returns-in-Ok
-returns-in-Ok c =
-    let named = c.in-Some.ensures.made in
-    rw (c.in-Ok.ensures.value, named) (column_read-int64 (view c.args.value) _ _
-    (sym c.in-Some.ensures.value ∙ ap Some named) c.in-Some-take_list.ensures
-    c.in_ok-slots.ensures)
+pub returns : goal.returns
+returns c =
+    Reads-same any_column _ _ _
+    (column_read-list (view c.args.value) _ _ c.in-Some.ensures.value c.in-Some-take_list.ensures)
+    c.read_cells.ensures
