@@ -5,3 +5,4 @@ pub mod NumberTextLemmas
 pub mod PositionLemmas
 pub mod ReadingLemmas
 pub mod SpellingLemmas
+pub mod StepTextLemmas

@@ -17,8 +17,8 @@ use Rattle.col_types.specs.DataType.{whole_type_of}
 use Rattle.col_eval.specs.Tree.{Tree, column, literal, step, level_count}
 use Rattle.col_eval.specs.Typing.{max_levels}
 use Rattle.col_eval.specs.declared.expr.Op.{Op}
-use Rattle.col_eval.specs.declared.expr.Op.TheVariants.{Add, CheckedAdd}
 use Rattle.col_document.specs.Json.{◌>>=◌, each, item_count}
+use Rattle.col_document.specs.StepText.{named_steps, step_text}
 use Rattle.col_document.specs.TypeText.{type_text}
 
 -- ---- texts
@@ -54,9 +54,7 @@ position_named (c ∷ digits) =
 
 -- the step of a name
 abbrev pub step_named : List ℕ → Option Op
-step_named text =
-    if bytes_eq text (codes "add") then Some Add
-    else (if bytes_eq text (codes "checked_add") then Some CheckedAdd else None)
+step_named text = find (λ op. bytes_eq text (step_text op)) named_steps
 
 -- the types whose cells documents hold
 abbrev pub cell_kinds : List DataKind

@@ -6,9 +6,12 @@ use Rattle.std.specs.Fmt.{decimal}
 use Rattle.serde_json.specs.Data.{Items, array}
 use Rattle.col_eval.specs.Tree.{Tree, column, literal, step, level_count}
 use Rattle.col_eval.specs.Typing.{max_levels}
+use Rattle.col_eval.specs.declared.expr.Op.{Op}
 use Rattle.col_document.specs.Document.{Piece, leaf, named, only_tree, piece_read, position_named}
 use Rattle.col_types.specs.CellOf.{is_typed_column}
-use Rattle.col_document.specs.Document.{DocumentView, document_of, tree_read, with_pieces}
+use Rattle.col_document.specs.Document.{DocumentView, document_of, step_named, tree_read}
+use Rattle.col_document.specs.Document.{with_pieces}
+use Rattle.col_document.specs.StepText.{step_text}
 use Rattle.col_document.specs.Json.{◌>>=◌, each}
 
 -- the items that a tree is written as: those of its left operand, of its right one, then the step
@@ -39,6 +42,10 @@ IsReadFromItsSpelling = (items : Items) (t : Tree) →
 abbrev pub NamesItsPosition : Type 0
 NamesItsPosition = (text : List ℕ) (i : ℕ) →
     (position_named text ≡ Some i) ↔ ((text ≡ codes "c" ++ decimal i) × (i < 2 ^ 32))
+
+-- each step is read from its name, and from no other text
+abbrev pub NamesItsStep : Type 0
+NamesItsStep = (text : List ℕ) (op : Op) → (step_named text ≡ Some op) ↔ (text ≡ step_text op)
 
 -- the columns of a document's table hold cells of their types
 abbrev pub DocumentHoldsItsCells : Type 0

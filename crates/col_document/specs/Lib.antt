@@ -1,6 +1,7 @@
 pub use Rattle.col_types.specs.Column
 pub use Rattle.col_eval.specs.Tree
 pub mod Json
+pub mod StepText
 pub mod TypeText
 pub mod Document
 pub mod Reading

@@ -1,7 +1,7 @@
 //! What holds of the definitions, as facts of their own.
 ghost use Rattle.col_document.specs.Laws.{DocumentHoldsItsCells, IsReadFromItsSpelling};
 ghost use Rattle.col_document.specs.Laws.{IsSpelledInOneWay};
-ghost use Rattle.col_document.specs.Laws.{NamesItsPosition};
+ghost use Rattle.col_document.specs.Laws.{NamesItsPosition, NamesItsStep};
 
 /// A list of items leaves a tree exactly where it is the tree's spelling in postfix order, and the
 /// tree has at most 256 levels.
@@ -18,6 +18,11 @@ pub fn a_tree_is_read_from_its_spelling()
 /// A column's name tells a position exactly where it is `c` and the position's digits.
 pub fn a_column_name_is_its_position()
     ensures { NamesItsPosition }
+{}
+
+/// A text names a step exactly where it is the step's own name.
+pub fn a_step_is_read_from_its_name()
+    ensures { NamesItsStep }
 {}
 
 /// Each cell of a document's table is one of its column's type.

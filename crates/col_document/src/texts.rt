@@ -27,7 +27,21 @@ pub fn read_step(text: &str) -> Option<Op>
 {
     match text {
         "add" => Some(Op::Add),
+        "wrapping_add" => Some(Op::WrappingAdd),
         "checked_add" => Some(Op::CheckedAdd),
+        "saturating_add" => Some(Op::SaturatingAdd),
+        "sub" => Some(Op::Sub),
+        "wrapping_sub" => Some(Op::WrappingSub),
+        "checked_sub" => Some(Op::CheckedSub),
+        "saturating_sub" => Some(Op::SaturatingSub),
+        "mul" => Some(Op::Mul),
+        "wrapping_mul" => Some(Op::WrappingMul),
+        "checked_mul" => Some(Op::CheckedMul),
+        "saturating_mul" => Some(Op::SaturatingMul),
+        "div" => Some(Op::Div),
+        "checked_div" => Some(Op::CheckedDiv),
+        "rem" => Some(Op::Rem),
+        "checked_rem" => Some(Op::CheckedRem),
         _ => None,
     }
 }
