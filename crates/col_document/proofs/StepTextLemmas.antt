@@ -45,7 +45,7 @@ step_named-text CheckedRem = refl
 -- a text names a step exactly where it is the step's own name
 pub names_its_step : NamesItsStep
 names_its_step text op = (
-    λ h. (bytes_eq-Decides text (step_text op)).0
-    (found_passes (λ o. bytes_eq text (step_text o)) named_steps op h),
-    λ same. rw same (step_named-text op)
+  λ h. (bytes_eq-Decides text (step_text op)).0
+      (found_passes (λ o. bytes_eq text (step_text o)) named_steps op h),
+  λ same. rw same (step_named-text op),
 )
