@@ -1,0 +1,57 @@
+-- Powers of ten, digits, and bounds of precisions.
+use Rattle.std.proofs.Common.{◌≡◌, ℕ, ◌+◌, ◌-◌, ◌*◌, ◌^◌, ◌<◌, ◌≤◌, ℤ, pos, ◌-ℤ◌, FitsSigned, length}
+use Rattle.std.proofs.Common.{refl, sym, ◌∙◌, arith, to_z, of_z, add-one}
+use Rattle.std.specs.Int.{w128}
+use Rattle.std.specs.Int.Digits.{digits_of}
+use Rattle.std.proofs.Math.Nat.{pow-le-pow_right, pow-succ'}
+use Rattle.std.proofs.lemmas.Int.{ints}
+use Rattle.std.proofs.lemmas.Int.Digits.{all_below_base_digits_of, length-digits_of-le}
+use Rattle.std.proofs.lemmas.Int.Digits.{number_digits_of, number_lt}
+
+-- a larger power of ten is no less
+power-le : (i j : ℕ) → i ≤ j → 10 ^ i ≤ 10 ^ j
+power-le i j h = pow-le-pow_right {n = 10} (omega arith) h
+
+-- a power of ten of 38 at most has 127 bits
+pub power-lt : (k : ℕ) → k ≤ 38 → 10 ^ k < 2 ^ 127
+power-lt k h = let small = power-le k 38 h in omega arith
+
+-- it fits
+pub power_fits : (k : ℕ) → k ≤ 38 → FitsSigned w128 (pos (10 ^ k))
+power_fits k h = record { sfits = power-lt k h }
+
+-- a power of ten is not 0
+pub power_pos : (k : ℕ) → 0 < 10 ^ k
+power_pos k = let some = power-le 0 k (omega arith) in omega arith
+
+-- one less than a power of ten, as it is worked out
+pub limit_worked : (k : ℕ) (n : ℤ) → k ≤ 38 → n ≡ pos (10 ^ k)
+    → to_z w128 (of_z w128 (to_z w128 (of_z w128 n) -ℤ pos 1)) ≡ pos (10 ^ k - 1)
+limit_worked k n h e =
+    let small = power-lt k h in
+    let some = power_pos k in
+    rw e (omega (arith, ints))
+
+-- a number is below the power of ten of its digits
+pub digits-lt : (n : ℕ) → n < 10 ^ length (digits_of 10 n)
+digits-lt n =
+    let below = number_lt 10 (digits_of 10 n) (all_below_base_digits_of 10 n (omega arith)) in
+    rw (number_digits_of 10 n (omega arith)) at below
+
+-- a power of ten that is below another one has the lesser exponent
+power_order : (i j : ℕ) → 10 ^ i < 10 ^ j → i < j
+power_order i j h = grind (arith, power-le)
+
+-- the exponent after, by its law
+power_next : (k : ℕ) → 10 ^ (k + 1) ≡ 10 * 10 ^ k
+power_next k = rw add-one (pow-succ' 10 k)
+
+-- a number between two powers of ten has the digits of the larger one
+pub digits_between : (n k : ℕ) → 10 ^ k ≤ n → n < 10 * 10 ^ k → length (digits_of 10 n) ≡ k + 1
+digits_between n k low high =
+    let next = power_next k in
+    let most : length (digits_of 10 n) ≤ k + 1 =
+    length-digits_of-le 10 (k + 1) n (omega arith) (omega arith) in
+    let below = digits-lt n in
+    let least = power_order k (length (digits_of 10 n)) (omega arith) in
+    omega arith

@@ -1,0 +1,61 @@
+//! Sums of decimals, row by row.
+ghost use Rattle.col_types.specs.Answer.{Answers};
+ghost use Rattle.col_flat.specs.Parts.{column_of};
+ghost use Rattle.col_decimal.specs.DecimalStep.{addition, checked, decimal_answer, plain};
+ghost use Rattle.col_decimal.specs.DecimalStep.{saturating};
+
+use crate::kernels::{Plain, Saturating, checked_two, refusing_two};
+use crate::operator::Addition;
+use col_flat::PrimitiveArray;
+use col_types::Error;
+use std::alloc::Global;
+
+/// Adds two arrays of decimals with the same parameters, row by row. A row where either slot is
+/// null is null; the type is that of `lhs`.
+///
+/// Refused, in this order: `Parameters` exactly where precision or scale differ; `Lengths` exactly
+/// where the arrays differ in length; `Overflow` exactly where the sum of some two valid slots has
+/// more digits than the precision.
+pub fn add(
+    alloc: Global,
+    lhs: &PrimitiveArray<i128>,
+    rhs: &PrimitiveArray<i128>,
+) -> Result<PrimitiveArray<i128>, Error>
+    ensures answer { Answers column_of result
+        (decimal_answer addition plain (column_of lhs.now) (column_of rhs.now)) }
+{
+    refusing_two::<Addition, Plain>(alloc, lhs, rhs)
+}
+
+/// Adds two arrays of decimals with the same parameters, row by row. A row is null where either
+/// slot is null or the sum has more digits than the precision; the type is that of `lhs`.
+///
+/// Refused, in this order: `Parameters` exactly where precision or scale differ; `Lengths` exactly
+/// where the arrays differ in length.
+pub fn checked_add(
+    alloc: Global,
+    lhs: &PrimitiveArray<i128>,
+    rhs: &PrimitiveArray<i128>,
+) -> Result<PrimitiveArray<i128>, Error>
+    ensures answer { Answers column_of result
+        (decimal_answer addition checked (column_of lhs.now) (column_of rhs.now)) }
+{
+    checked_two::<Addition>(alloc, lhs, rhs)
+}
+
+/// Adds two arrays of decimals with the same parameters, row by row; a sum with more digits than
+/// the precision gives the greatest number of the precision, or its negative, by the sum's sign. A
+/// row where either slot is null is null; the type is that of `lhs`.
+///
+/// Refused, in this order: `Parameters` exactly where precision or scale differ; `Lengths` exactly
+/// where the arrays differ in length.
+pub fn saturating_add(
+    alloc: Global,
+    lhs: &PrimitiveArray<i128>,
+    rhs: &PrimitiveArray<i128>,
+) -> Result<PrimitiveArray<i128>, Error>
+    ensures answer { Answers column_of result
+        (decimal_answer addition saturating (column_of lhs.now) (column_of rhs.now)) }
+{
+    refusing_two::<Addition, Saturating>(alloc, lhs, rhs)
+}

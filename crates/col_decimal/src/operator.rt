@@ -1,0 +1,45 @@
+//! The four operations, each as its function of two numbers.
+ghost use Rattle.std.specs.Prelude.{◌≡◌};
+ghost use Rattle.col_decimal.specs.DecimalStep.{DecimalOperation, checked_decimal, is_by_zero};
+ghost use Rattle.col_decimal.specs.DecimalStep.{is_negative_result};
+
+use crate::bounds::Bounds;
+
+// An operation on decimals of one type.
+pub(crate) trait DecimalOperator {
+    // Which operation it is.
+    ghost operation: { DecimalOperation };
+
+    // The result; none where there is none, or it is no number of the type.
+    fn checked(bounds: Bounds, a: i128, b: i128) -> Option<i128>
+        ensures { result ≡ checked_decimal operation bounds.precision bounds.scale a b };
+
+    // Whether there is no result by the number.
+    fn divides_by_zero(b: i128) -> bool
+        ensures { result ≡ is_by_zero operation b };
+
+    // Whether a result that is not 0 is negative.
+    fn is_negative(a: i128, b: i128) -> bool
+        ensures { result ≡ is_negative_result operation a b };
+}
+
+// The sum.
+pub(crate) struct Addition;
+
+impl DecimalOperator for Addition {
+    ghost use Rattle.col_decimal.specs.DecimalStep.{addition};
+
+    ghost operation = { addition };
+
+    fn checked(bounds: Bounds, a: i128, b: i128) -> Option<i128> {
+        bounds.within(a.checked_add(b)?)
+    }
+
+    fn divides_by_zero(_b: i128) -> bool {
+        false
+    }
+
+    fn is_negative(a: i128, b: i128) -> bool {
+        a.saturating_add(b) < 0
+    }
+}
