@@ -1,10 +1,11 @@
 -- Powers of ten, digits, and bounds of precisions.
 use Rattle.std.proofs.Common.{◌≡◌, ℕ, ◌+◌, ◌-◌, ◌*◌, ◌^◌, ◌<◌, ◌≤◌, ℤ, pos, ◌-ℤ◌, FitsSigned, length}
-use Rattle.std.proofs.Common.{refl, sym, ◌∙◌, arith, to_z, of_z, add-one}
+use Rattle.std.proofs.Common.{refl, sym, ◌∙◌, arith, to_z, of_z, add-one, ◌<ℤ◌}
 use Rattle.std.specs.Int.{w128}
 use Rattle.std.specs.Int.Digits.{digits_of}
 use Rattle.std.proofs.Math.Nat.{pow-le-pow_right, pow-succ'}
-use Rattle.std.proofs.lemmas.Int.{ints}
+use Rattle.std.specs.Prelude.{int_div}
+use Rattle.std.proofs.lemmas.Int.{ints, quot_fits, to_z-of_z}
 use Rattle.std.proofs.lemmas.Int.Digits.{all_below_base_digits_of, length-digits_of-le}
 use Rattle.std.proofs.lemmas.Int.Digits.{number_digits_of, number_lt}
 
@@ -31,6 +32,17 @@ limit_worked k n h e =
     let small = power-lt k h in
     let some = power_pos k in
     rw e (omega (arith, ints))
+
+-- a division by a power of ten goes well
+pub quotient_worked : (n d : ℤ) (k : ℕ) → FitsSigned w128 n → k ≤ 38 → d ≡ pos (10 ^ k)
+    → (0 < of_z w128 d)
+    × FitsSigned w128 (int_div (to_z w128 (of_z w128 n)) (to_z w128 (of_z w128 d)))
+quotient_worked n d k f h e =
+    let some = power_pos k in
+    let fits : FitsSigned w128 d = rw e (power_fits k h) in
+    let above : pos 0 <ℤ d = rw e (omega (arith, ints)) in
+    rw (to_z-of_z w128 n f, to_z-of_z w128 d fits)
+    (rw e (omega arith), quot_fits w128 n d f above)
 
 -- a number is below the power of ten of its digits
 pub digits-lt : (n : ℕ) → n < 10 ^ length (digits_of 10 n)

@@ -1,8 +1,10 @@
 -- What a step on two decimals gives, by where the divisor is 0 and where the result fits.
 use Rattle.std.proofs.Common.{◌≡◌, ℕ, ℤ, pos, Bool, true, false, List, [], ◌∷◌, Option, Some, None}
-use Rattle.std.proofs.Common.{Result, Ok, Err, refl, sym, ◌∙◌}
+use Rattle.std.proofs.Common.{Result, Ok, Err, refl, sym, ◌∙◌, length, replicate}
 use Rattle.col_model.specs.Cell.{Cell, Cause, null, whole}
+use Rattle.col_model.specs.WholeStep.{each_row}
 use Rattle.col_types.specs.Answer.{as_errors}
+use Rattle.col_types.specs.Column.{Column, row_count, scalar_answer}
 use Rattle.col_types.specs.declared.error.Error.{Error}
 use Rattle.col_basic.specs.Answered.{checked_cell}
 use Rattle.col_basic.proofs.KernelLemmas.{Values}
@@ -30,6 +32,19 @@ decimal_strict operation form precision scale = record {
       (c : Cell) → decimal_step operation form precision scale c null ≡ Ok null
   null_right operation form precision scale (whole a) = refl
   null_right operation form precision scale _ = refl
+
+-- beside a null each row is null
+nulls_beside : (step : Cell → Cell → Result Cell Cause) → IsStrict step → (cells : List Cell)
+    → each_row step cells (replicate (length cells) null) ≡ Ok (replicate (length cells) null)
+nulls_beside step strict [] = refl
+nulls_beside step strict (c ∷ cells) =
+    rw (strict.right c, nulls_beside step strict cells) refl
+
+-- a column beside a null scalar is a column of nulls
+pub scalar-null : (step : Cell → Cell → Result Cell Cause) → IsStrict step → (left : Column)
+    → scalar_answer step left null
+    ≡ Ok (record { data_type = left.data_type; cells = replicate (row_count left) null })
+scalar-null step strict left = rw (nulls_beside step strict left.cells) refl
 
 module _ (operation : DecimalOperation) (precision scale : ℕ) (a b : ℤ) where
   -- the result that is checked is what each form gives

@@ -6,7 +6,7 @@ ghost use Rattle.col_types.specs.declared.error.Reason.TheVariants.{Parameters};
 ghost use Rattle.col_types.specs.DataKind.{kind_of};
 ghost use Rattle.col_types.specs.DataType.{IsMadeOf};
 ghost use Rattle.col_decimal.specs.Decimal.{decimal_limit, has_parameters_of, is_within};
-ghost use Rattle.col_decimal.specs.Decimal.{precision_of, scale_of};
+ghost use Rattle.col_decimal.specs.Decimal.{precision_of, quotient_by_ten, scale_of};
 ghost use Rattle.col_decimal.specs.DecimalStep.{signed_limit};
 
 use crate::decimal::{max_value, power_of_ten};
@@ -52,6 +52,13 @@ impl Bounds {
         } else {
             None
         }
+    }
+
+    // The quotient by the scale's power of ten, toward zero.
+    pub(crate) fn unscaled(self, n: i128) -> i128
+        ensures { result ≡ quotient_by_ten n self.scale }
+    {
+        n / self.power
     }
 
     // The limit, with a sign.

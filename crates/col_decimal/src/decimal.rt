@@ -4,6 +4,9 @@ ghost use Rattle.col_types.specs.DataType.{is_fitting_decimal};
 ghost use Rattle.col_decimal.specs.Decimal.{decimal_limit, digit_count};
 
 pub(crate) mod add;
+pub(crate) mod div;
+pub(crate) mod mul;
+pub(crate) mod sub;
 
 /// The greatest number of so many digits: 10^p - 1.
 pub fn max_value(precision: usize) -> i128

@@ -1,17 +1,18 @@
 //! The kernels of each form, for any operation: on two arrays, and on an array and a scalar.
-ghost use Rattle.std.specs.Prelude.{◌≡◌};
-ghost use Rattle.col_model.specs.Cell.{whole};
+ghost use Rattle.std.specs.Prelude.{◌≡◌, Ok, replicate};
+ghost use Rattle.col_model.specs.Cell.{null, whole};
 ghost use Rattle.col_types.specs.Answer.{Answers, as_errors};
-ghost use Rattle.col_types.specs.Column.{kernel_answer};
-ghost use Rattle.col_flat.specs.Parts.{column_of};
+ghost use Rattle.col_types.specs.Column.{kernel_answer, row_count, scalar_answer};
+ghost use Rattle.col_flat.specs.Parts.{column_of, slot_cell};
 ghost use Rattle.col_basic.specs.Answered.{checked_cell, plain_cell};
-ghost use Rattle.col_decimal.specs.DecimalStep.{DecimalForm, checked, decimal_answer, decimal_step};
+ghost use Rattle.col_decimal.specs.DecimalStep.{DecimalForm, checked, decimal_answer};
+ghost use Rattle.col_decimal.specs.DecimalStep.{decimal_scalar_answer, decimal_step, plain};
 ghost use Rattle.col_decimal.specs.DecimalStep.{unfit_decimal};
 
 use crate::bounds::{Bounds, bounds_of};
 use crate::operator::DecimalOperator;
-use col_arity::{binary_checked, try_binary};
-use col_flat::PrimitiveArray;
+use col_arity::{binary_checked, try_binary, try_unary};
+use col_flat::{PrimitiveArray, PrimitiveScalar};
 use col_types::Error;
 use std::alloc::Global;
 
@@ -84,6 +85,50 @@ pub(crate) fn checked_two<O: DecimalOperator>(
 {
     let bounds = bounds_of(lhs.data_type(), rhs.data_type())?;
     checked_rows::<O>(alloc, bounds, lhs, rhs)
+}
+
+// The plain form on an array and a scalar; beside a null scalar each slot is null.
+pub(crate) fn plain_one<O: DecimalOperator>(
+    alloc: Global,
+    lhs: &PrimitiveArray<i128>,
+    rhs: &PrimitiveScalar<i128>,
+) -> Result<PrimitiveArray<i128>, Error>
+    ensures answer { Answers column_of result
+        (decimal_scalar_answer O.operation plain (column_of lhs.now)
+        rhs.now.data_type (slot_cell rhs.now.slot)) }
+{
+    let bounds = bounds_of(lhs.data_type(), rhs.data_type())?;
+    match rhs.value() {
+        Some(number) => plain_beside::<O>(alloc, bounds, lhs, number),
+        None => nulls_like(alloc, lhs),
+    }
+}
+
+// The plain form at each row, beside one number.
+fn plain_beside<O: DecimalOperator>(
+    alloc: Global,
+    bounds: Bounds,
+    lhs: &PrimitiveArray<i128>,
+    rhs: i128,
+) -> Result<PrimitiveArray<i128>, Error>
+    ensures answer { Answers column_of result
+        (scalar_answer (decimal_step O.operation plain bounds.precision bounds.scale)
+        (column_of lhs.now) (whole rhs)) }
+{
+    let data_type = lhs.data_type().try_clone(alloc)?;
+    let number = |a| refusing_number::<O, Plain>(bounds, a, rhs);
+    try_unary(alloc, lhs, number, data_type)
+}
+
+// An array of nulls with the type and the rows of another.
+fn nulls_like(alloc: Global, array: &PrimitiveArray<i128>) -> Result<PrimitiveArray<i128>, Error>
+    ensures { Answers column_of result (Ok (record {
+      data_type = (column_of array.now).data_type;
+      cells = replicate (row_count (column_of array.now)) null;
+    })) }
+{
+    let data_type = array.data_type().try_clone(alloc)?;
+    PrimitiveArray::new_null(alloc, data_type, array.len())
 }
 
 // A form that refuses a divisor of 0, row by row.

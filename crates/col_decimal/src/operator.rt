@@ -43,3 +43,66 @@ impl DecimalOperator for Addition {
         a.saturating_add(b) < 0
     }
 }
+
+// The difference.
+pub(crate) struct Subtraction;
+
+impl DecimalOperator for Subtraction {
+    ghost use Rattle.col_decimal.specs.DecimalStep.{subtraction};
+
+    ghost operation = { subtraction };
+
+    fn checked(bounds: Bounds, a: i128, b: i128) -> Option<i128> {
+        bounds.within(a.checked_sub(b)?)
+    }
+
+    fn divides_by_zero(_b: i128) -> bool {
+        false
+    }
+
+    fn is_negative(a: i128, b: i128) -> bool {
+        a.saturating_sub(b) < 0
+    }
+}
+
+// The product, by the scale's power of ten.
+pub(crate) struct Multiplication;
+
+impl DecimalOperator for Multiplication {
+    ghost use Rattle.col_decimal.specs.DecimalStep.{multiplication};
+
+    ghost operation = { multiplication };
+
+    fn checked(bounds: Bounds, a: i128, b: i128) -> Option<i128> {
+        bounds.within(bounds.unscaled(a.checked_mul(b)?))
+    }
+
+    fn divides_by_zero(_b: i128) -> bool {
+        false
+    }
+
+    fn is_negative(a: i128, b: i128) -> bool {
+        (a < 0) != (b < 0)
+    }
+}
+
+// The quotient of a dividend that the scale's power of ten is multiplied to, toward zero.
+pub(crate) struct Division;
+
+impl DecimalOperator for Division {
+    ghost use Rattle.col_decimal.specs.DecimalStep.{division};
+
+    ghost operation = { division };
+
+    fn checked(bounds: Bounds, a: i128, b: i128) -> Option<i128> {
+        bounds.within(a.checked_mul(bounds.power)?.checked_div(b)?)
+    }
+
+    fn divides_by_zero(b: i128) -> bool {
+        b == 0
+    }
+
+    fn is_negative(a: i128, b: i128) -> bool {
+        (a < 0) != (b < 0)
+    }
+}

@@ -1,12 +1,12 @@
 //! Sums of decimals, row by row.
 ghost use Rattle.col_types.specs.Answer.{Answers};
-ghost use Rattle.col_flat.specs.Parts.{column_of};
-ghost use Rattle.col_decimal.specs.DecimalStep.{addition, checked, decimal_answer, plain};
-ghost use Rattle.col_decimal.specs.DecimalStep.{saturating};
+ghost use Rattle.col_flat.specs.Parts.{column_of, slot_cell};
+ghost use Rattle.col_decimal.specs.DecimalStep.{addition, checked, decimal_answer};
+ghost use Rattle.col_decimal.specs.DecimalStep.{decimal_scalar_answer, plain, saturating};
 
-use crate::kernels::{Plain, Saturating, checked_two, refusing_two};
+use crate::kernels::{Plain, Saturating, checked_two, plain_one, refusing_two};
 use crate::operator::Addition;
-use col_flat::PrimitiveArray;
+use col_flat::{PrimitiveArray, PrimitiveScalar};
 use col_types::Error;
 use std::alloc::Global;
 
@@ -27,20 +27,21 @@ pub fn add(
     refusing_two::<Addition, Plain>(alloc, lhs, rhs)
 }
 
-/// Adds two arrays of decimals with the same parameters, row by row. A row is null where either
-/// slot is null or the sum has more digits than the precision; the type is that of `lhs`.
+/// Adds a scalar to each slot of an array of decimals with the same parameters. A null slot stays
+/// null, and where the scalar is null each slot is; the type is that of `lhs`.
 ///
-/// Refused, in this order: `Parameters` exactly where precision or scale differ; `Lengths` exactly
-/// where the arrays differ in length.
-pub fn checked_add(
+/// Refused, in this order: `Parameters` exactly where precision or scale differ; `Overflow` exactly
+/// where the sum of some valid slot and the scalar has more digits than the precision.
+pub fn add_scalar(
     alloc: Global,
     lhs: &PrimitiveArray<i128>,
-    rhs: &PrimitiveArray<i128>,
+    rhs: &PrimitiveScalar<i128>,
 ) -> Result<PrimitiveArray<i128>, Error>
     ensures answer { Answers column_of result
-        (decimal_answer addition checked (column_of lhs.now) (column_of rhs.now)) }
+        (decimal_scalar_answer addition plain (column_of lhs.now)
+        rhs.now.data_type (slot_cell rhs.now.slot)) }
 {
-    checked_two::<Addition>(alloc, lhs, rhs)
+    plain_one::<Addition>(alloc, lhs, rhs)
 }
 
 /// Adds two arrays of decimals with the same parameters, row by row; a sum with more digits than
@@ -58,4 +59,20 @@ pub fn saturating_add(
         (decimal_answer addition saturating (column_of lhs.now) (column_of rhs.now)) }
 {
     refusing_two::<Addition, Saturating>(alloc, lhs, rhs)
+}
+
+/// Adds two arrays of decimals with the same parameters, row by row. A row is null where either
+/// slot is null, or where the sum has more digits than the precision; the type is that of `lhs`.
+///
+/// Refused, in this order: `Parameters` exactly where precision or scale differ; `Lengths` exactly
+/// where the arrays differ in length.
+pub fn checked_add(
+    alloc: Global,
+    lhs: &PrimitiveArray<i128>,
+    rhs: &PrimitiveArray<i128>,
+) -> Result<PrimitiveArray<i128>, Error>
+    ensures answer { Answers column_of result
+        (decimal_answer addition checked (column_of lhs.now) (column_of rhs.now)) }
+{
+    checked_two::<Addition>(alloc, lhs, rhs)
 }
