@@ -1,10 +1,14 @@
 -- Powers of ten, digits, and bounds of precisions.
 use Rattle.std.proofs.Common.{◌≡◌, ℕ, ◌+◌, ◌-◌, ◌*◌, ◌^◌, ◌<◌, ◌≤◌, ℤ, pos, ◌-ℤ◌, FitsSigned, length}
 use Rattle.std.proofs.Common.{refl, sym, ◌∙◌, arith, to_z, of_z, add-one, ◌<ℤ◌}
+use Rattle.std.proofs.Common.{true, ◌*ℤ◌, zero, suc, negsuc}
+use Rattle.col_decimal.specs.Decimal.{digit_count, is_within, times_ten}
 use Rattle.std.specs.Int.{w128}
 use Rattle.std.specs.Int.Digits.{digits_of}
 use Rattle.std.proofs.Math.Nat.{pow-le-pow_right, pow-succ'}
-use Rattle.std.specs.Prelude.{int_div}
+use Rattle.std.specs.Prelude.{int_div, max, unsigned_abs}
+use Rattle.std.specs.Ordering.{int_eq}
+use Rattle.std.proofs.lemmas.Bool.Decides.{nat_tests}
 use Rattle.std.proofs.lemmas.Int.{ints, quot_fits, to_z-of_z}
 use Rattle.std.proofs.lemmas.Int.Digits.{all_below_base_digits_of, length-digits_of-le}
 use Rattle.std.proofs.lemmas.Int.Digits.{number_digits_of, number_lt}
@@ -67,3 +71,30 @@ digits_between n k low high =
     let below = digits-lt n in
     let least = power_order k (length (digits_of 10 n)) (omega arith) in
     omega arith
+
+-- a larger number has no fewer digits
+digits-le : (m n : ℕ) → m ≤ n → length (digits_of 10 m) ≤ length (digits_of 10 n)
+digits-le m n h =
+    let below = digits-lt n in
+    length-digits_of-le 10 (length (digits_of 10 n)) m (omega arith) (omega arith)
+
+-- the larger of two numbers has the larger count of digits
+pub digits-max : (m n : ℕ)
+    → length (digits_of 10 (max m n)) ≡ max (length (digits_of 10 m)) (length (digits_of 10 n))
+digits-max m n = grind (arith, digits-le)
+
+-- a number within a precision has no more digits
+pub within-digits : (precision : ℕ) (n : ℤ) → is_within precision n ≡ true
+    → digit_count n ≤ precision
+within-digits precision n h =
+    let some = power_pos precision in
+    let below : unsigned_abs n < 10 ^ precision = grind (arith, nat_tests) in
+    length-digits_of-le 10 precision (unsigned_abs n) (omega arith) below
+
+-- a number times a power of ten is 0 exactly where it is
+pub times_zero : (n : ℤ) (k : ℕ) → int_eq (times_ten n k) (pos 0) ≡ int_eq n (pos 0)
+times_zero n k = by_sign n (10 ^ k) (power_pos k) where
+  by_sign : (n : ℤ) (m : ℕ) → 0 < m → int_eq (n *ℤ pos m) (pos 0) ≡ int_eq n (pos 0)
+  by_sign (pos zero) m h = grind (arith, ints, nat_tests)
+  by_sign (pos (suc n)) m h = grind (arith, ints, nat_tests)
+  by_sign (negsuc n) m h = grind (arith, ints, nat_tests)

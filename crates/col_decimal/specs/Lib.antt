@@ -4,5 +4,6 @@ pub use Rattle.col_types.specs.Answer
 pub use Rattle.col_types.specs.Column
 pub use Rattle.col_types.specs.DataKind
 pub use Rattle.col_flat.specs.Parts
+pub mod Adaptive
 pub mod Decimal
 pub mod DecimalStep

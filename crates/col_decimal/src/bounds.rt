@@ -4,7 +4,7 @@ ghost use Rattle.std.specs.Prelude.{None, Some, if◌then◌else◌};
 ghost use Rattle.col_types.specs.declared.datatypes.physical_type.PrimitiveType.TheVariants as name;
 ghost use Rattle.col_types.specs.declared.error.Reason.TheVariants.{Parameters};
 ghost use Rattle.col_types.specs.DataKind.{kind_of};
-ghost use Rattle.col_types.specs.DataType.{IsMadeOf};
+ghost use Rattle.col_types.specs.DataType.{IsMadeOf, is_fitting_decimal};
 ghost use Rattle.col_decimal.specs.Decimal.{decimal_limit, has_parameters_of, is_within};
 ghost use Rattle.col_decimal.specs.Decimal.{precision_of, quotient_by_ten, scale_of};
 ghost use Rattle.col_decimal.specs.DecimalStep.{signed_limit};
@@ -69,8 +69,10 @@ impl Bounds {
     }
 }
 
-// The precision and the scale of a decimal type; other types have none.
+// The precision and the scale of a decimal type.
 pub(crate) fn parameters_of(data_type: &DataType) -> (usize, usize)
+    requires { IsMadeOf (kind_of data_type.now) name.Int128 }
+    ensures fits { IsTrue (is_fitting_decimal result.0 result.1) }
     ensures precision { result.0 ≡ precision_of (kind_of data_type.now) }
     ensures scale { result.1 ≡ scale_of (kind_of data_type.now) }
 {
@@ -84,7 +86,8 @@ pub(crate) fn parameters_of(data_type: &DataType) -> (usize, usize)
 //
 // Refused: `Parameters` where the types have not the same parameters.
 pub(crate) fn bounds_of(lhs: &DataType, rhs: &DataType) -> Result<Bounds, Error>
-    requires { IsMadeOf (kind_of lhs.now) name.Int128 }
+    requires left { IsMadeOf (kind_of lhs.now) name.Int128 }
+    requires right { IsMadeOf (kind_of rhs.now) name.Int128 }
     ensures precision { IfOk result (λ bounds. bounds.precision ≡ precision_of (kind_of lhs.now)) }
     ensures scale { IfOk result (λ bounds. bounds.scale ≡ scale_of (kind_of lhs.now)) }
     ensures range { IsOk result

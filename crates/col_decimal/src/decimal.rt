@@ -28,7 +28,14 @@ pub(crate) fn power_of_ten(exponent: usize) -> i128
 pub fn number_digits(num: i128) -> usize
     ensures { result ≡ digit_count num }
 {
-    match num.unsigned_abs().checked_ilog10() {
+    digits_of_size(num.unsigned_abs())
+}
+
+// How many digits a number without a sign has.
+pub(crate) fn digits_of_size(size: u128) -> usize
+    ensures { result ≡ digit_count (pos size) }
+{
+    match size.checked_ilog10() {
         Some(place) => place as usize + 1,
         None => 0,
     }

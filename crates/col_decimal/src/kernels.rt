@@ -164,7 +164,7 @@ fn checked_rows<O: DecimalOperator>(
 }
 
 // What a form that refuses a divisor of 0 gives for two numbers.
-fn refusing_number<O: DecimalOperator, F: RefusingForm>(
+pub(crate) fn refusing_number<O: DecimalOperator, F: RefusingForm>(
     bounds: Bounds,
     a: i128,
     b: i128,

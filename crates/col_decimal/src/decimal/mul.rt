@@ -1,9 +1,11 @@
 //! Products of decimals, row by row.
 ghost use Rattle.col_types.specs.Answer.{Answers};
 ghost use Rattle.col_flat.specs.Parts.{column_of, slot_cell};
+ghost use Rattle.col_decimal.specs.Adaptive.{adaptive_answer};
 ghost use Rattle.col_decimal.specs.DecimalStep.{multiplication, checked, decimal_answer};
 ghost use Rattle.col_decimal.specs.DecimalStep.{decimal_scalar_answer, plain, saturating};
 
+use crate::adaptive::adaptive_two;
 use crate::kernels::{Plain, Saturating, checked_two, plain_one, refusing_two};
 use crate::operator::Multiplication;
 use col_flat::{PrimitiveArray, PrimitiveScalar};
@@ -82,4 +84,24 @@ pub fn checked_mul(
         (decimal_answer multiplication checked (column_of lhs.now) (column_of rhs.now)) }
 {
     checked_two::<Multiplication>(alloc, lhs, rhs)
+}
+
+/// Multiplies two arrays of decimals of any parameters, row by row, at the larger of their scales:
+/// the product by 10^s, toward zero, s being that scale. A row where either slot is null is null.
+/// The answer has that scale and the precision of `adjusted_precision_scale`, or as many digits as
+/// the longest number of a valid row, where these are more.
+///
+/// Refused, in this order: `Parameters` exactly where the precision of `adjusted_precision_scale`
+/// passes 38; `Lengths` exactly where the arrays differ in length; as the least row is refused that
+/// has two valid slots and a number at the larger scale or the product past 128 bits, or a result
+/// of more than 38 digits, with `Overflow`.
+pub fn adaptive_mul(
+    alloc: Global,
+    lhs: &PrimitiveArray<i128>,
+    rhs: &PrimitiveArray<i128>,
+) -> Result<PrimitiveArray<i128>, Error>
+    ensures answer { Answers column_of result
+        (adaptive_answer multiplication (column_of lhs.now) (column_of rhs.now)) }
+{
+    adaptive_two::<Multiplication>(alloc, lhs, rhs)
 }
