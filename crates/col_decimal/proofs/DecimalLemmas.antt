@@ -3,7 +3,7 @@ use Rattle.std.proofs.Common.{◌≡◌, ℕ, ◌+◌, ◌-◌, ◌*◌, ◌^◌
 use Rattle.std.proofs.Common.{refl, sym, ◌∙◌, arith, to_z, of_z, add-one, ◌<ℤ◌}
 use Rattle.std.proofs.Common.{true, ◌*ℤ◌, zero, suc, negsuc}
 use Rattle.col_decimal.specs.Decimal.{digit_count, is_within, times_ten}
-use Rattle.std.specs.Int.{w128}
+use Rattle.std.specs.Int.{Width, w128}
 use Rattle.std.specs.Int.Digits.{digits_of}
 use Rattle.std.proofs.Math.Nat.{pow-le-pow_right, pow-succ'}
 use Rattle.std.specs.Prelude.{int_div, max, unsigned_abs}
@@ -37,16 +37,14 @@ limit_worked k n h e =
     let some = power_pos k in
     rw e (omega (arith, ints))
 
--- a division by a power of ten goes well
-pub quotient_worked : (n d : ℤ) (k : ℕ) → FitsSigned w128 n → k ≤ 38 → d ≡ pos (10 ^ k)
-    → (0 < of_z w128 d)
-    × FitsSigned w128 (int_div (to_z w128 (of_z w128 n)) (to_z w128 (of_z w128 d)))
-quotient_worked n d k f h e =
+-- a division by a power of ten goes well, in any width that has both numbers
+pub quotient_worked : (w : Width) (n d : ℤ) (k : ℕ) → FitsSigned w n → FitsSigned w d
+    → d ≡ pos (10 ^ k)
+    → (0 < of_z w d) × FitsSigned w (int_div (to_z w (of_z w n)) (to_z w (of_z w d)))
+quotient_worked w n d k f g e =
     let some = power_pos k in
-    let fits : FitsSigned w128 d = rw e (power_fits k h) in
     let above : pos 0 <ℤ d = rw e (omega (arith, ints)) in
-    rw (to_z-of_z w128 n f, to_z-of_z w128 d fits)
-    (rw e (omega arith), quot_fits w128 n d f above)
+    rw (to_z-of_z w n f, to_z-of_z w d g) (rw e (omega arith), quot_fits w n d f above)
 
 -- a number is below the power of ten of its digits
 pub digits-lt : (n : ℕ) → n < 10 ^ length (digits_of 10 n)

@@ -17,6 +17,7 @@ use crate::bounds::{Bounds, parameters_of};
 use crate::decimal::{adjusted_precision_scale, digits_of_size, power_of_ten};
 use crate::kernels::{Plain, RefusingForm, refusing_number};
 use crate::operator::DecimalOperator;
+use crate::wide::product;
 use col_arity::try_binary;
 use col_flat::PrimitiveArray;
 use col_types::{DataType, Error, Reason};
@@ -60,8 +61,8 @@ impl Scales {
     fn brought(self, a: i128, b: i128) -> Option<(i128, i128)>
         ensures { result ≡ brought_numbers self.left self.right a b }
     {
-        let left = a.checked_mul(self.left_power)?;
-        let right = b.checked_mul(self.right_power)?;
+        let left = product(a, self.left_power)?;
+        let right = product(b, self.right_power)?;
         Some((left, right))
     }
 }

@@ -58,7 +58,10 @@ impl Bounds {
     pub(crate) fn unscaled(self, n: i128) -> i128
         ensures { result ≡ quotient_by_ten n self.scale }
     {
-        n / self.power
+        match (i64::try_from(n), i64::try_from(self.power)) {
+            (Ok(n), Ok(power)) => i128::from(n / power),
+            _ => n / self.power,
+        }
     }
 
     // The limit, with a sign.

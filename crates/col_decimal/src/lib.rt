@@ -6,6 +6,7 @@ mod bounds;
 mod decimal;
 mod kernels;
 mod operator;
+mod wide;
 
 pub use decimal::add::{adaptive_add, add, add_scalar, checked_add, saturating_add};
 pub use decimal::div::{adaptive_div, checked_div, div, div_scalar, saturating_div};

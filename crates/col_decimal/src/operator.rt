@@ -4,6 +4,7 @@ ghost use Rattle.col_decimal.specs.DecimalStep.{DecimalOperation, checked_decima
 ghost use Rattle.col_decimal.specs.DecimalStep.{is_negative_result};
 
 use crate::bounds::Bounds;
+use crate::wide::{product, quotient};
 
 // An operation on decimals of one type.
 pub(crate) trait DecimalOperator {
@@ -74,7 +75,7 @@ impl DecimalOperator for Multiplication {
     ghost operation = { multiplication };
 
     fn checked(bounds: Bounds, a: i128, b: i128) -> Option<i128> {
-        bounds.within(bounds.unscaled(a.checked_mul(b)?))
+        bounds.within(bounds.unscaled(product(a, b)?))
     }
 
     fn divides_by_zero(_b: i128) -> bool {
@@ -95,7 +96,7 @@ impl DecimalOperator for Division {
     ghost operation = { division };
 
     fn checked(bounds: Bounds, a: i128, b: i128) -> Option<i128> {
-        bounds.within(a.checked_mul(bounds.power)?.checked_div(b)?)
+        bounds.within(quotient(product(a, bounds.power)?, b)?)
     }
 
     fn divides_by_zero(b: i128) -> bool {
