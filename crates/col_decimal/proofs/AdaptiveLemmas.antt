@@ -1,20 +1,20 @@
 -- What an adaptive step gives, and the digits of what it gives.
 use Rattle.std.proofs.Common.{◌≡◌, ℕ, ◌≤◌, ℤ, Bool, true, false, List, [], ◌∷◌, Option, Some, None}
-use Rattle.std.proofs.Common.{Result, Ok, Err, refl, sym, ◌∙◌, length, map, arith}
+use Rattle.std.proofs.Common.{Result, Ok, Err, refl, ◌∙◌, length, arith}
 use Rattle.std.specs.Prelude.{max, nat_le, unsigned_abs, ◌==◌, ◌&&◌, ◌-◌, IfOk, IsOk}
 use Rattle.std.specs.Int.Digits.{digits_of}
 use Rattle.std.proofs.lemmas.Bool.{and_parts}
-use Rattle.col_model.specs.Cell.{Cell, Cause, null, whole, overflow, divide_by_zero}
-use Rattle.col_model.specs.WholeStep.{before, each_row}
+use Rattle.col_model.specs.Cell.{Cell, Cause, null, whole}
+use Rattle.col_model.specs.WholeStep.{each_row}
 use Rattle.col_model.specs.Whole.{is_fitting}
 use Rattle.col_types.specs.Answer.{Answers, as_errors}
 use Rattle.col_types.specs.Column.{Column, kernel_answer, row_count}
 use Rattle.col_types.specs.DataKind.{decimal}
 use Rattle.col_types.specs.declared.error.Error.{Error}
-use Rattle.col_flat.specs.Parts.{PrimitiveParts, column_of, slot_cell}
+use Rattle.col_flat.specs.Parts.{PrimitiveParts, column_of}
 use Rattle.col_basic.proofs.RowLemmas.{IsStrict}
-use Rattle.col_decimal.specs.Adaptive.{adaptive_answer, adaptive_column, adaptive_scale}
-use Rattle.col_decimal.specs.Adaptive.{adaptive_step, at_scale, brought_numbers, brought_step}
+use Rattle.col_decimal.specs.Adaptive.{adaptive_answer, adaptive_scale}
+use Rattle.col_decimal.specs.Adaptive.{adaptive_step, at_scale, brought_numbers}
 use Rattle.col_decimal.specs.Adaptive.{first_precision, most_digits}
 use Rattle.col_decimal.specs.Decimal.{digit_count, is_within, scale_of, stored_type, times_ten}
 use Rattle.col_decimal.specs.DecimalStep.{DecimalOperation, addition, subtraction, multiplication}
@@ -143,7 +143,10 @@ rows_digits step small (x ∷ left) (y ∷ right) cells h =
 -- a column in the type in which the rows are worked out
 abbrev pub worked_column : Column → Column → Column
 worked_column left right =
-    record { data_type = decimal 38 (adaptive_scale left.data_type right.data_type); cells = left.cells }
+    record {
+      data_type = decimal 38 (adaptive_scale left.data_type right.data_type);
+      cells = left.cells;
+    }
 
 module _ (operation : DecimalOperation) (left right : Column) where
   -- the step at each row

@@ -1,6 +1,7 @@
 -- Powers of ten, digits, and bounds of precisions.
-use Rattle.std.proofs.Common.{◌≡◌, ℕ, ◌+◌, ◌-◌, ◌*◌, ◌^◌, ◌<◌, ◌≤◌, ℤ, pos, ◌-ℤ◌, FitsSigned, length}
-use Rattle.std.proofs.Common.{refl, sym, ◌∙◌, arith, to_z, of_z, add-one, ◌<ℤ◌}
+use Rattle.std.proofs.Common.{◌≡◌, ℕ, ◌+◌, ◌-◌, ◌*◌, ◌^◌, ◌<◌, ◌≤◌, ℤ, pos, ◌-ℤ◌}
+use Rattle.std.proofs.Common.{FitsSigned, length}
+use Rattle.std.proofs.Common.{arith, to_z, of_z, add-one, ◌<ℤ◌}
 use Rattle.std.proofs.Common.{true, ◌*ℤ◌, zero, suc, negsuc}
 use Rattle.col_decimal.specs.Decimal.{digit_count, is_within, times_ten}
 use Rattle.std.specs.Int.{Width, w128}

@@ -1,11 +1,10 @@
 -- What a step on two decimals gives, by where the divisor is 0 and where the result fits.
-use Rattle.std.proofs.Common.{◌≡◌, ℕ, ℤ, pos, Bool, true, false, List, [], ◌∷◌, Option, Some, None}
-use Rattle.std.proofs.Common.{Result, Ok, Err, refl, sym, ◌∙◌, length, replicate}
+use Rattle.std.proofs.Common.{◌≡◌, ℕ, ℤ, Bool, true, false, List, [], ◌∷◌, Option, Some, None}
+use Rattle.std.proofs.Common.{Result, Ok, refl, length, replicate}
 use Rattle.col_model.specs.Cell.{Cell, Cause, null, whole}
 use Rattle.col_model.specs.WholeStep.{each_row}
 use Rattle.col_types.specs.Answer.{as_errors}
 use Rattle.col_types.specs.Column.{Column, row_count, scalar_answer}
-use Rattle.col_types.specs.declared.error.Error.{Error}
 use Rattle.col_basic.specs.Answered.{checked_cell}
 use Rattle.col_basic.proofs.KernelLemmas.{Values}
 use Rattle.col_basic.proofs.RowLemmas.{IsStrict}

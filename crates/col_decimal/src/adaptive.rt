@@ -1,5 +1,6 @@
 //! The adaptive kernel, for any operation: on arrays of any two decimal types.
-ghost use Rattle.std.specs.Prelude.{◌≡◌, ◌≤◌, ◌-◌, ◌^◌, ◌↔◌, IfErr, IfOk, IsOk, IsTrue, max, nat_le, pos};
+ghost use Rattle.std.specs.Prelude.{◌≡◌, ◌≤◌, ◌-◌, ◌^◌, ◌↔◌, IfErr, IfOk, IsOk, IsTrue, max};
+ghost use Rattle.std.specs.Prelude.{nat_le, pos};
 ghost use Rattle.col_model.specs.Cell.{whole};
 ghost use Rattle.col_types.specs.Answer.{Answers, as_errors};
 ghost use Rattle.col_types.specs.Column.{kernel_answer};

@@ -1,10 +1,10 @@
 //! The four operations, each as its function of two numbers.
 ghost use Rattle.std.specs.Prelude.{◌≡◌};
-ghost use Rattle.col_decimal.specs.DecimalStep.{DecimalOperation, checked_decimal, is_by_zero};
-ghost use Rattle.col_decimal.specs.DecimalStep.{is_negative_result};
+ghost use Rattle.col_decimal.specs.DecimalStep.{DecimalOperation, checked_decimal, has_two_signs};
+ghost use Rattle.col_decimal.specs.DecimalStep.{is_by_zero, is_negative_result};
 
 use crate::bounds::Bounds;
-use crate::wide::{product, quotient};
+use crate::wide::product;
 
 // An operation on decimals of one type.
 pub(crate) trait DecimalOperator {
@@ -83,7 +83,7 @@ impl DecimalOperator for Multiplication {
     }
 
     fn is_negative(a: i128, b: i128) -> bool {
-        (a < 0) != (b < 0)
+        differ_in_sign(a, b)
     }
 }
 
@@ -96,7 +96,7 @@ impl DecimalOperator for Division {
     ghost operation = { division };
 
     fn checked(bounds: Bounds, a: i128, b: i128) -> Option<i128> {
-        bounds.within(quotient(product(a, bounds.power)?, b)?)
+        bounds.within(product(a, bounds.power)?.checked_div(b)?)
     }
 
     fn divides_by_zero(b: i128) -> bool {
@@ -104,6 +104,13 @@ impl DecimalOperator for Division {
     }
 
     fn is_negative(a: i128, b: i128) -> bool {
-        (a < 0) != (b < 0)
+        differ_in_sign(a, b)
     }
+}
+
+// Whether one of two numbers is negative and the other is not.
+fn differ_in_sign(a: i128, b: i128) -> bool
+    ensures { result ≡ has_two_signs a b }
+{
+    (a < 0) != (b < 0)
 }

@@ -1,10 +1,11 @@
-use Rattle.std.proofs.Common.{◌≡◌, rules, true}
+use Rattle.std.proofs.Common.{◌≡◌, rules}
 use Rattle.std.proofs.lemmas.Result.{err_from_is_err_and}
 use Rattle.col_types.proofs.AnswerLemmas.{UnlessMemory-weaker}
 use Rattle.col_flat.specs.Parts.{column_of}
 use Rattle.col_decimal.specs.Adaptive.{adaptive_scale, first_precision}
 use Rattle.col_decimal.specs.Decimal.{scale_of}
-use Rattle.col_decimal.proofs.AdaptiveLemmas.{IsPrecise, answer-made, answer-refused, answer-settled}
+use Rattle.col_decimal.proofs.AdaptiveLemmas.{IsPrecise, answer-made, answer-refused}
+use Rattle.col_decimal.proofs.AdaptiveLemmas.{answer-settled}
 use Rattle.col_decimal.proofs.adaptive.adaptive_two.Goals as goal
 
 pub returns-in_err-array : goal.returns-in_err-array
