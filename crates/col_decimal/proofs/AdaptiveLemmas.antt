@@ -16,7 +16,10 @@ use Rattle.col_basic.proofs.RowLemmas.{IsStrict}
 use Rattle.col_decimal.specs.Adaptive.{adaptive_answer, adaptive_scale}
 use Rattle.col_decimal.specs.Adaptive.{adaptive_step, at_scale, brought_numbers}
 use Rattle.col_decimal.specs.Adaptive.{first_precision, most_digits}
-use Rattle.col_decimal.specs.Decimal.{digit_count, is_within, scale_of, stored_type, times_ten}
+use Rattle.col_decimal.specs.Decimal.{digit_count, is_within, precision_of, scale_of, stored_type}
+use Rattle.col_decimal.specs.Decimal.{times_ten}
+use Rattle.std.proofs.Common.{◌<◌, zero, suc}
+use Rattle.std.specs.Prelude.{Contains, slice_index_or}
 use Rattle.col_decimal.specs.DecimalStep.{DecimalOperation, addition, subtraction, multiplication}
 use Rattle.col_decimal.specs.DecimalStep.{division, plain, decimal_result, decimal_step}
 use Rattle.col_decimal.specs.DecimalStep.{is_by_zero, is_decimal_result, unfit_decimal}
@@ -50,11 +53,11 @@ module _ (operation : DecimalOperation) (scale other : ℕ) (a b : ℤ) where
       → r ≡ as_errors (decimal_step operation plain 38 (max scale other) (whole p.0) (whole p.1))
       → r ≡ as_errors (adaptive_step operation scale other (whole a) (whole b))
   step-brought p r h e = by_tests _ _ refl refl where
-    by_tests : (zero fits : Bool) → is_by_zero operation b ≡ zero
+    by_tests : (naught fits : Bool) → is_by_zero operation b ≡ naught
         → (is_fitting stored_type (at_scale scale (max scale other) a)
         && is_fitting stored_type (at_scale other (max scale other) b)) ≡ fits
         → r ≡ as_errors (adaptive_step operation scale other (whole a) (whole b))
-    by_tests zero false z f = let none = rw f at h in cc
+    by_tests naught false z f = let none = rw f at h in cc
     by_tests false true z f = rw (z, ← h) e
     by_tests true true z f =
         let some = rw f at h in
@@ -70,7 +73,7 @@ module _ (operation : DecimalOperation) (scale other : ℕ) (a b : ℤ) where
       → r ≡ as_errors (unfit_decimal operation plain precision a b)
       → r ≡ as_errors (adaptive_step operation scale other (whole a) (whole b))
   step-not_brought precision r h e = by_test _ refl where
-    by_test : (zero : Bool) → is_by_zero operation b ≡ zero
+    by_test : (naught : Bool) → is_by_zero operation b ≡ naught
         → r ≡ as_errors (adaptive_step operation scale other (whole a) (whole b))
     by_test true z = let given = rw z at e in rw z given
     by_test false z = let given = rw z at e in rw (z, ← h) given
@@ -80,7 +83,7 @@ plain_digits : (operation : DecimalOperation) (precision scale : ℕ) (a b : ℤ
     → decimal_step operation plain precision scale (whole a) (whole b) ≡ Ok c
     → most_digits (c ∷ []) ≤ precision
 plain_digits operation precision scale a b c h = by_tests _ _ refl refl where
-  by_tests : (zero fits : Bool) → is_by_zero operation b ≡ zero
+  by_tests : (naught fits : Bool) → is_by_zero operation b ≡ naught
       → is_decimal_result operation precision scale a b ≡ fits → most_digits (c ∷ []) ≤ precision
   by_tests true fits z f = let refused = rw z at h in cc
   by_tests false true z f =
@@ -98,7 +101,7 @@ adaptive_digits : (operation : DecimalOperation) (scale other : ℕ) (x y c : Ce
     → adaptive_step operation scale other x y ≡ Ok c → most_digits (c ∷ []) ≤ 38
 adaptive_digits operation scale other (whole a) (whole b) c h =
     by_tests _ _ refl refl where
-      by_tests : (zero : Bool) (brought : Option (ℤ × ℤ)) → is_by_zero operation b ≡ zero
+      by_tests : (naught : Bool) (brought : Option (ℤ × ℤ)) → is_by_zero operation b ≡ naught
           → brought_numbers scale other a b ≡ brought → most_digits (c ∷ []) ≤ 38
       by_tests true brought z f = let refused = rw z at h in cc
       by_tests false None z f = let refused = rw (z, f) at h in cc
@@ -217,6 +220,49 @@ module _ (operation : DecimalOperation) (left right : Column) where
       let told = rw (first, larger) at value in
       rw told answer
   answer-settled precision scale array (Err e) precise rows first larger ok value = cc
+
+-- ---- the numbers of an answer
+
+-- a cell in front leaves no fewer digits
+most_digits-more : (c : Cell) (cells : List Cell) → most_digits cells ≤ most_digits (c ∷ cells)
+most_digits-more (whole n) cells = omega arith
+most_digits-more _ cells = omega arith
+
+-- no number has more digits than the longest
+digits-held : (cells : List Cell) (n : ℤ) (k : ℕ) → k < length cells
+    → slice_index_or cells k (whole n) ≡ whole n → digit_count n ≤ most_digits cells
+digits-held [] n k h e = absurd (omega arith)
+digits-held (c ∷ cells) n zero h e =
+    let same : c ≡ whole n = e in
+    rw same (omega arith)
+digits-held (c ∷ cells) n (suc k) h e =
+    let rest : digit_count n ≤ most_digits cells = digits-held cells n k (omega arith) e in
+    let more = most_digits-more c cells in
+    omega arith
+
+-- none of an adaptive answer has more digits than its type
+pub adaptive-held : (operation : DecimalOperation) (left right answer : Column)
+    → adaptive_answer operation left right ≡ Ok answer
+    → (n : ℤ) → Contains answer.cells (whole n) → digit_count n ≤ precision_of answer.data_type
+adaptive-held operation left right answer h n held = by_tests _ _ _ refl refl refl where
+  by_tests : (precise same : Bool) (rows : Result (List Cell) Cause)
+      → nat_le (first_precision left.data_type right.data_type) 38 ≡ precise
+      → (row_count left == row_count right) ≡ same
+      → each_row (row_step operation left right) left.cells right.cells ≡ rows
+      → digit_count n ≤ precision_of answer.data_type
+  by_tests false same rows p s r = let refused = rw p at h in cc
+  by_tests true false rows p s r = let refused = rw (p, s) at h in cc
+  by_tests true true (Err cause) p s r = let refused = rw (p, s, r) at h in cc
+  by_tests true true (Ok cells) p s r =
+      let given = rw (p, s, r) at h in
+      let first = first_precision left.data_type right.data_type in
+      let told : answer.data_type
+          ≡ decimal (max first (most_digits cells))
+          (adaptive_scale left.data_type right.data_type) = cc in
+      let same : answer.cells ≡ cells = cc in
+      let found = rw same at held in
+      let most = digits-held cells n found.0 found.1 found.2 in
+      rw told (omega arith)
 
 -- ---- the loop over an array
 

@@ -2,8 +2,9 @@
 use Rattle.std.proofs.Common.{◌≡◌, ℕ, ◌+◌, ◌-◌, ◌*◌, ◌^◌, ◌<◌, ◌≤◌, ℤ, pos, ◌-ℤ◌}
 use Rattle.std.proofs.Common.{FitsSigned, length}
 use Rattle.std.proofs.Common.{arith, to_z, of_z, add-one, ◌<ℤ◌}
-use Rattle.std.proofs.Common.{true, ◌*ℤ◌, zero, suc, negsuc}
+use Rattle.std.proofs.Common.{Bool, false, true, ◌*ℤ◌, zero, suc, negsuc}
 use Rattle.col_decimal.specs.Decimal.{digit_count, is_within, times_ten}
+use Rattle.col_decimal.specs.DecimalStep.{signed_limit}
 use Rattle.std.specs.Int.{Width, w128}
 use Rattle.std.specs.Int.Digits.{digits_of}
 use Rattle.std.proofs.Math.Nat.{pow-le-pow_right, pow-succ'}
@@ -89,6 +90,21 @@ within-digits precision n h =
     let some = power_pos precision in
     let below : unsigned_abs n < 10 ^ precision = grind (arith, nat_tests) in
     length-digits_of-le 10 precision (unsigned_abs n) (omega arith) below
+
+-- a number with no more digits than a precision lies within it
+pub digits-within : (precision : ℕ) (n : ℤ) → digit_count n ≤ precision
+    → is_within precision n ≡ true
+digits-within precision n h =
+    let below = digits-lt (unsigned_abs n) in
+    let least = power-le (digit_count n) precision h in
+    let most : unsigned_abs n ≤ 10 ^ precision - 1 = omega arith in
+    grind (arith, nat_tests)
+
+-- the limit of a precision lies within it, and so does its negative
+pub signed_limit-within : (precision : ℕ) (is_negative : Bool)
+    → is_within precision (signed_limit precision is_negative) ≡ true
+signed_limit-within precision false = grind (arith, ints, nat_tests)
+signed_limit-within precision true = grind (arith, ints, nat_tests)
 
 -- a number times a power of ten is 0 exactly where it is
 pub times_zero : (n : ℤ) (k : ℕ) → int_eq (times_ten n k) (pos 0) ≡ int_eq n (pos 0)

@@ -7,3 +7,4 @@ pub use Rattle.col_flat.specs.Parts
 pub mod Adaptive
 pub mod Decimal
 pub mod DecimalStep
+pub mod Laws

@@ -5,6 +5,7 @@ mod adaptive;
 mod bounds;
 mod decimal;
 mod kernels;
+pub mod laws;
 mod operator;
 mod wide;
 
