@@ -99,54 +99,67 @@ fn what_passes_128_bits_or_38_digits_is_refused(rt: HostRuntime) {
     }
 }
 
-// An array of two values, of which the first is null.
-fn beneath_a_null(alloc: Global, values: [i128; 2]) -> Result<Decimals, Error> {
-    let values = Buffer::from_vec(alloc, Vec::from_array(alloc, values)?);
+// Two decimals of five digits, of which the first is null, whatever is stored there.
+fn beneath_a_null(alloc: Global, values: &[i128]) -> Result<Decimals, Error> {
     let mask = Bitmap::from_bools(alloc, &[false, true])?;
-    let values = values.map_err(|refused| refused.0)?;
-    PrimitiveArray::try_new(DataType::Decimal(5, 0), values, Some(mask))
+    match Buffer::from_vec(alloc, Vec::from_slice(alloc, values)?) {
+        Ok(values) => PrimitiveArray::try_new(DataType::Decimal(5, 0), values, Some(mask)),
+        Err(refused) => Err(refused.0),
+    }
 }
 
-// Whether the two arrays of `Decimal(5, 0)` give these slots at a precision.
-fn is_sum(
-    alloc: Global,
-    lhs: &Decimals,
-    rhs: Slots,
-    precision: usize,
-    wanted: Slots,
-) -> Result<bool, Error> {
-    let rhs = decimals(alloc, 5, 0, rhs)?;
-    let answer = Step::Add.adaptive(alloc, lhs, &rhs)?;
-    Ok(answer.equal(&decimals(alloc, precision, 0, wanted)?))
+// Whether two decimals, the first of them null, plus 1 give null and this number, of a precision.
+fn is_sum(alloc: Global, values: &[i128], precision: usize, sum: i128) -> Result<bool, Error> {
+    let lhs = beneath_a_null(alloc, values)?;
+    let ones = decimals(alloc, 5, 0, &[Some(1), Some(1)])?;
+    let wanted = decimals(alloc, precision, 0, &[None, Some(sum)])?;
+    let answer = Step::Add.adaptive(alloc, &lhs, &ones)?;
+    Ok(answer.equal(&wanted))
 }
 
 #[test]
-fn valid_rows_alone_tell_the_precision(rt: HostRuntime) -> Result<(), Error> {
-    let alloc = rt.alloc();
+fn what_lies_beneath_a_null_tells_no_precision(rt: HostRuntime) {
+    let told = is_sum(rt.alloc(), &[99999, 1], 5, 2);
+    assert_eq!(rt; told, Ok(true), "99999 beneath a null");
+    let told = is_sum(rt.alloc(), &[i128::MAX, 99999], 6, 100000);
+    assert_eq!(rt; told, Ok(true), "the greatest number beneath a null");
+}
+
+// The precision of the sum of two columns of five digits.
+fn sum_precision(alloc: Global, lhs: Slots, rhs: Slots) -> Result<usize, Error> {
+    let lhs = decimals(alloc, 5, 0, lhs)?;
+    let rhs = decimals(alloc, 5, 0, rhs)?;
+    let answer = Step::Add.adaptive(alloc, &lhs, &rhs)?;
+    match answer.data_type() {
+        DataType::Decimal(precision, _) => Ok(*precision),
+        _ => Err(Error::OutOfSpec),
+    }
+}
+
+#[test]
+fn the_longest_sum_tells_the_precision_in_any_row(rt: HostRuntime) {
     let ones = [Some(1), Some(1)];
-    let lhs = beneath_a_null(alloc, [99999, 1])?;
+    let first = sum_precision(rt.alloc(), &[Some(99999), Some(1)], &ones);
+    assert_eq!(rt; first, Ok(6), "in the first row");
+    let last = sum_precision(rt.alloc(), &[Some(1), Some(99999)], &ones);
+    assert_eq!(rt; last, Ok(6), "in the last row");
+    let none = sum_precision(rt.alloc(), &[None, None], &ones);
+    assert_eq!(rt; none, Ok(5), "in no row");
+    let refusal = sum_precision(rt.alloc(), &[None], &ones);
+    let lengths = Error::InvalidArgumentError(Reason::Lengths);
+    assert_eq!(rt; refusal, Err(lengths), "one row and two");
+}
+
+#[test]
+fn rows_of_two_types_get_one(rt: HostRuntime) -> Result<(), Error> {
+    let alloc = rt.alloc();
+    let lhs = decimals(alloc, 6, 1, &[Some(111110), Some(10)])?;
+    let rhs = decimals(alloc, 5, 3, &[Some(10002), Some(2000)])?;
+    let wanted = decimals(alloc, 9, 3, &[Some(111132222), Some(2000)])?;
+    let products = Step::Mul.adaptive(alloc, &lhs, &rhs)?;
     assert!(rt;
-        is_sum(alloc, &lhs, &ones, 5, &[None, Some(2)])?,
-        "99999 beneath a null"
+        products.equal(&wanted),
+        "11111.0 by 10.002, and 1.0 by 2.000"
     );
-    let lhs = beneath_a_null(alloc, [i128::MAX, 99999])?;
-    let sums = [None, Some(100000)];
-    assert!(rt;
-        is_sum(alloc, &lhs, &ones, 6, &sums)?,
-        "the greatest number beneath a null"
-    );
-    let lhs = decimals(alloc, 5, 0, &[Some(99999), Some(1)])?;
-    let sums = [Some(100000), Some(2)];
-    assert!(rt;
-        is_sum(alloc, &lhs, &ones, 6, &sums)?,
-        "the longest sum first"
-    );
-    let lhs = decimals(alloc, 5, 0, &[])?;
-    assert!(rt; is_sum(alloc, &lhs, &[], 5, &[])?, "no row");
-    let refusal = Step::Add
-        .adaptive(alloc, &lhs, &decimals(alloc, 5, 0, &ones)?)
-        .err();
-    let lengths = Some(Error::InvalidArgumentError(Reason::Lengths));
-    assert_eq!(rt; refusal, lengths, "no row and two");
     Ok(())
 }

@@ -12,6 +12,9 @@ pub(crate) type Decimals = PrimitiveArray<i128>;
 
 pub(crate) type Slots<'a> = &'a [Option<i128>];
 
+// The parameters of an answer and its one slot, or its refusal.
+pub(crate) type Answer = Result<(usize, usize, Option<i128>), Error>;
+
 pub(crate) fn decimals(
     alloc: Global,
     precision: usize,
@@ -22,7 +25,7 @@ pub(crate) fn decimals(
 }
 
 // The parameters of an answer and its slot, which is its only one.
-pub(crate) fn told(answer: Result<Decimals, Error>) -> Result<(usize, usize, Option<i128>), Error> {
+pub(crate) fn told(answer: Result<Decimals, Error>) -> Answer {
     let answer = answer?;
     if answer.len() != 1 {
         return Err(Error::OutOfSpec);

@@ -1,6 +1,6 @@
 //! Checks of the plain, checked and saturating forms and of the calls with a scalar, row by row. The
 //! tables are worked out by Python's integers; arrow2's own vectors are among them.
-use crate::arrays::{Step, decimals, told};
+use crate::arrays::{Answer, Slots, Step, decimals, told};
 use col_flat::PrimitiveScalar;
 use col_types::{DataType, Error, Reason};
 use std::alloc::Global;
@@ -12,7 +12,8 @@ const MOST: i128 = 99999999999999999999999999999999999999;
 type Row = [Option<i128>; 4];
 
 // Sums of `Decimal(5, 2)`.
-const SUMS: [Row; 11] = [
+const SUMS: [Row; 12] = [
+    [Some(-99999), Some(-99999), None, Some(-99999)],
     [Some(11111), Some(22222), Some(33333), Some(33333)],
     [Some(99998), Some(1), Some(99999), Some(99999)],
     [Some(99999), Some(1), None, Some(99999)],
@@ -27,7 +28,8 @@ const SUMS: [Row; 11] = [
 ];
 
 // Differences of `Decimal(5, 2)`.
-const DIFFERENCES: [Row; 11] = [
+const DIFFERENCES: [Row; 12] = [
+    [Some(99999), Some(-99999), None, Some(99999)],
     [Some(11111), Some(22222), Some(-11111), Some(-11111)],
     [Some(99999), Some(0), Some(99999), Some(99999)],
     [Some(99999), Some(-1), None, Some(99999)],
@@ -42,7 +44,11 @@ const DIFFERENCES: [Row; 11] = [
 ];
 
 // Products of `Decimal(5, 2)`.
-const PRODUCTS: [Row; 14] = [
+const PRODUCTS: [Row; 18] = [
+    [Some(99999), Some(1000), None, Some(99999)],
+    [Some(100), Some(200), Some(200), Some(200)],
+    [Some(99999), Some(-100), Some(-99999), Some(-99999)],
+    [Some(99999), Some(-99999), None, Some(-99999)],
     [Some(11111), Some(200), Some(22222), Some(22222)],
     [Some(99999), Some(100), Some(99999), Some(99999)],
     [Some(99999), Some(101), None, Some(99999)],
@@ -60,7 +66,9 @@ const PRODUCTS: [Row; 14] = [
 ];
 
 // Quotients of `Decimal(5, 2)`.
-const QUOTIENTS: [Row; 13] = [
+const QUOTIENTS: [Row; 15] = [
+    [Some(600), Some(200), Some(300), Some(300)],
+    [Some(400), None, None, None],
     [Some(99999), Some(100), Some(99999), Some(99999)],
     [Some(99999), Some(99), None, Some(99999)],
     [Some(-99999), Some(99), None, Some(-99999)],
@@ -214,35 +222,37 @@ fn each_form_answers_with_ample_memory(rt: HostRuntime) -> Result<(), Error> {
     Ok(())
 }
 
-#[test]
-fn a_zero_divisor_comes_before_what_fits(rt: HostRuntime) -> Result<(), Error> {
-    let alloc = rt.alloc();
+// What each form answers by 0: plain, with a scalar, saturating, checked.
+fn by_zero(alloc: Global, number: i128) -> Result<[Answer; 4], Error> {
+    let lhs = decimals(alloc, 5, 2, &[Some(number)])?;
     let zero = decimals(alloc, 5, 2, &[Some(0)])?;
     let scalar = PrimitiveScalar::new(DataType::Decimal(5, 2), Some(0))?;
-    for number in [100, 0, i128::MIN] {
-        let lhs = decimals(alloc, 5, 2, &[Some(number)])?;
-        let answers = [
-            told(Step::Div.plain(alloc, &lhs, &zero)),
-            told(Step::Div.scalar(alloc, &lhs, &scalar)),
-            told(Step::Div.saturating(alloc, &lhs, &zero)),
-        ];
-        assert_eq!(rt; answers, [Err(Error::DivideByZero); 3], "{number}");
-        let checked = told(Step::Div.checked(alloc, &lhs, &zero));
-        assert_eq!(rt; checked, Ok((5, 2, None)), "{number}, checked");
-    }
-    Ok(())
+    Ok([
+        told(Step::Div.plain(alloc, &lhs, &zero)),
+        told(Step::Div.scalar(alloc, &lhs, &scalar)),
+        told(Step::Div.saturating(alloc, &lhs, &zero)),
+        told(Step::Div.checked(alloc, &lhs, &zero)),
+    ])
 }
 
-// The refusals of each form for two arrays.
+#[test]
+fn a_zero_divisor_comes_before_what_fits(rt: HostRuntime) {
+    let refused = Err(Error::DivideByZero);
+    let wanted = [refused, refused, refused, Ok((5, 2, None))];
+    for number in [100, 0, i128::MIN] {
+        assert_eq!(rt; by_zero(rt.alloc(), number), Ok(wanted), "{number}");
+    }
+}
+
+// The refusals of each form for two columns, of which the second has these slots at a scale.
 fn refusals(
     alloc: Global,
     step: Step,
     scale: usize,
-    count: usize,
+    rhs: Slots,
 ) -> Result<[Option<Error>; 3], Error> {
     let lhs = decimals(alloc, 5, 2, &[None, Some(100000)])?;
-    let rhs = vec![in alloc; Some(0); count]?;
-    let rhs = decimals(alloc, 5, scale, rhs.as_slice())?;
+    let rhs = decimals(alloc, 5, scale, rhs)?;
     Ok([
         step.plain(alloc, &lhs, &rhs).err(),
         step.checked(alloc, &lhs, &rhs).err(),
@@ -251,42 +261,31 @@ fn refusals(
 }
 
 #[test]
-fn parameters_come_before_lengths_and_these_before_rows(rt: HostRuntime) -> Result<(), Error> {
-    let alloc = rt.alloc();
+fn parameters_come_before_lengths_and_these_before_rows(rt: HostRuntime) {
     let parameters = Some(Error::InvalidArgumentError(Reason::Parameters));
     let lengths = Some(Error::InvalidArgumentError(Reason::Lengths));
     for step in [Step::Add, Step::Sub, Step::Mul, Step::Div] {
-        assert_eq!(rt;
-            refusals(alloc, step, 3, 3)?,
-            [parameters; 3],
-            "{step:?}, scale 3"
-        );
-        assert_eq!(rt;
-            refusals(alloc, step, 2, 3)?,
-            [lengths; 3],
-            "{step:?}, 3 rows"
-        );
-        let lhs = decimals(alloc, 5, 2, &[Some(100000)])?;
-        let scalar = PrimitiveScalar::new(DataType::Decimal(6, 2), None)?;
-        let refusal = step.scalar(alloc, &lhs, &scalar).err();
-        assert_eq!(rt;
-            refusal,
-            parameters,
-            "{step:?}, a null scalar of precision 6"
-        );
+        let told = refusals(rt.alloc(), step, 3, &[None]);
+        assert_eq!(rt; told, Ok([parameters; 3]), "{step:?}, scale 3");
+        let told = refusals(rt.alloc(), step, 2, &[None]);
+        assert_eq!(rt; told, Ok([lengths; 3]), "{step:?}, one row");
     }
-    Ok(())
+}
+
+// What a step answers for one number and a null scalar of a precision.
+fn beside_null(alloc: Global, step: Step, precision: usize) -> Answer {
+    let lhs = decimals(alloc, 5, 2, &[Some(100000)])?;
+    let scalar = PrimitiveScalar::new(DataType::Decimal(precision, 2), None)?;
+    told(step.scalar(alloc, &lhs, &scalar))
 }
 
 #[test]
-fn a_null_scalar_gives_nulls(rt: HostRuntime) -> Result<(), Error> {
-    let alloc = rt.alloc();
-    let lhs = decimals(alloc, 5, 2, &[Some(1), None])?;
-    let scalar = PrimitiveScalar::new(DataType::Decimal(5, 2), None)?;
-    let nulls = decimals(alloc, 5, 2, &[None, None])?;
+fn a_null_scalar_gives_null_after_the_parameters(rt: HostRuntime) {
+    let parameters = Error::InvalidArgumentError(Reason::Parameters);
     for step in [Step::Add, Step::Sub, Step::Mul, Step::Div] {
-        let answer = step.scalar(alloc, &lhs, &scalar)?;
-        assert!(rt; answer.equal(&nulls), "{step:?}");
+        let told = beside_null(rt.alloc(), step, 5);
+        assert_eq!(rt; told, Ok((5, 2, None)), "{step:?}, precision 5");
+        let told = beside_null(rt.alloc(), step, 6);
+        assert_eq!(rt; told, Err(parameters), "{step:?}, precision 6");
     }
-    Ok(())
 }

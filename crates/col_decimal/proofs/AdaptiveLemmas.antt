@@ -1,7 +1,8 @@
 -- What an adaptive step gives, and the digits of what it gives.
 use Rattle.std.proofs.Common.{◌≡◌, ℕ, ◌≤◌, ℤ, Bool, true, false, List, [], ◌∷◌, Option, Some, None}
-use Rattle.std.proofs.Common.{Result, Ok, Err, refl, ◌∙◌, length, arith}
-use Rattle.std.specs.Prelude.{max, nat_le, unsigned_abs, ◌==◌, ◌&&◌, ◌-◌, IfOk, IsOk}
+use Rattle.std.proofs.Common.{Result, Ok, Err, refl, ◌∙◌, length, arith, ◌<◌, zero, suc}
+use Rattle.std.specs.Prelude.{Contains, IfOk, IsOk, max, nat_le, slice_index_or, unsigned_abs, ◌==◌}
+use Rattle.std.specs.Prelude.{◌&&◌, ◌-◌}
 use Rattle.std.specs.Int.Digits.{digits_of}
 use Rattle.std.proofs.lemmas.Bool.{and_parts}
 use Rattle.col_model.specs.Cell.{Cell, Cause, null, whole}
@@ -18,8 +19,6 @@ use Rattle.col_decimal.specs.Adaptive.{adaptive_step, at_scale, brought_numbers}
 use Rattle.col_decimal.specs.Adaptive.{first_precision, most_digits}
 use Rattle.col_decimal.specs.Decimal.{digit_count, is_within, precision_of, scale_of, stored_type}
 use Rattle.col_decimal.specs.Decimal.{times_ten}
-use Rattle.std.proofs.Common.{◌<◌, zero, suc}
-use Rattle.std.specs.Prelude.{Contains, slice_index_or}
 use Rattle.col_decimal.specs.DecimalStep.{DecimalOperation, addition, subtraction, multiplication}
 use Rattle.col_decimal.specs.DecimalStep.{division, plain, decimal_result, decimal_step}
 use Rattle.col_decimal.specs.DecimalStep.{is_by_zero, is_decimal_result, unfit_decimal}
@@ -53,11 +52,11 @@ module _ (operation : DecimalOperation) (scale other : ℕ) (a b : ℤ) where
       → r ≡ as_errors (decimal_step operation plain 38 (max scale other) (whole p.0) (whole p.1))
       → r ≡ as_errors (adaptive_step operation scale other (whole a) (whole b))
   step-brought p r h e = by_tests _ _ refl refl where
-    by_tests : (naught fits : Bool) → is_by_zero operation b ≡ naught
+    by_tests : (is_zero fits : Bool) → is_by_zero operation b ≡ is_zero
         → (is_fitting stored_type (at_scale scale (max scale other) a)
         && is_fitting stored_type (at_scale other (max scale other) b)) ≡ fits
         → r ≡ as_errors (adaptive_step operation scale other (whole a) (whole b))
-    by_tests naught false z f = let none = rw f at h in cc
+    by_tests is_zero false z f = let none = rw f at h in cc
     by_tests false true z f = rw (z, ← h) e
     by_tests true true z f =
         let some = rw f at h in
@@ -73,7 +72,7 @@ module _ (operation : DecimalOperation) (scale other : ℕ) (a b : ℤ) where
       → r ≡ as_errors (unfit_decimal operation plain precision a b)
       → r ≡ as_errors (adaptive_step operation scale other (whole a) (whole b))
   step-not_brought precision r h e = by_test _ refl where
-    by_test : (naught : Bool) → is_by_zero operation b ≡ naught
+    by_test : (is_zero : Bool) → is_by_zero operation b ≡ is_zero
         → r ≡ as_errors (adaptive_step operation scale other (whole a) (whole b))
     by_test true z = let given = rw z at e in rw z given
     by_test false z = let given = rw z at e in rw (z, ← h) given
@@ -83,7 +82,7 @@ plain_digits : (operation : DecimalOperation) (precision scale : ℕ) (a b : ℤ
     → decimal_step operation plain precision scale (whole a) (whole b) ≡ Ok c
     → most_digits (c ∷ []) ≤ precision
 plain_digits operation precision scale a b c h = by_tests _ _ refl refl where
-  by_tests : (naught fits : Bool) → is_by_zero operation b ≡ naught
+  by_tests : (is_zero fits : Bool) → is_by_zero operation b ≡ is_zero
       → is_decimal_result operation precision scale a b ≡ fits → most_digits (c ∷ []) ≤ precision
   by_tests true fits z f = let refused = rw z at h in cc
   by_tests false true z f =
@@ -101,7 +100,7 @@ adaptive_digits : (operation : DecimalOperation) (scale other : ℕ) (x y c : Ce
     → adaptive_step operation scale other x y ≡ Ok c → most_digits (c ∷ []) ≤ 38
 adaptive_digits operation scale other (whole a) (whole b) c h =
     by_tests _ _ refl refl where
-      by_tests : (naught : Bool) (brought : Option (ℤ × ℤ)) → is_by_zero operation b ≡ naught
+      by_tests : (is_zero : Bool) (brought : Option (ℤ × ℤ)) → is_by_zero operation b ≡ is_zero
           → brought_numbers scale other a b ≡ brought → most_digits (c ∷ []) ≤ 38
       by_tests true brought z f = let refused = rw z at h in cc
       by_tests false None z f = let refused = rw (z, f) at h in cc
@@ -257,8 +256,8 @@ adaptive-held operation left right answer h n held = by_tests _ _ _ refl refl re
       let given = rw (p, s, r) at h in
       let first = first_precision left.data_type right.data_type in
       let told : answer.data_type
-          ≡ decimal (max first (most_digits cells))
-          (adaptive_scale left.data_type right.data_type) = cc in
+      ≡ decimal (max first (most_digits cells))
+      (adaptive_scale left.data_type right.data_type) = cc in
       let same : answer.cells ≡ cells = cc in
       let found = rw same at held in
       let most = digits-held cells n found.0 found.1 found.2 in

@@ -1,6 +1,6 @@
-use Rattle.std.proofs.Common.{◌≡◌, ℕ, ℤ, Bool, true, false, Ok, refl}
+use Rattle.std.proofs.Common.{◌≡◌, Bool, true, false, Ok, refl}
 use Rattle.col_model.specs.Cell.{whole}
-use Rattle.col_decimal.specs.DecimalStep.{checked, decimal_step, is_by_zero, is_decimal_result}
+use Rattle.col_decimal.specs.DecimalStep.{decimal_step, is_by_zero, is_decimal_result}
 use Rattle.col_decimal.specs.Laws.{CheckedNumberIsThatOfEachForm}
 use Rattle.col_decimal.proofs.laws.a_checked_number_is_that_of_each_form.Goals as goal
 

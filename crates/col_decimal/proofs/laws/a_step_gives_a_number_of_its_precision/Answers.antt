@@ -1,8 +1,8 @@
-use Rattle.std.proofs.Common.{◌≡◌, ℕ, ℤ, ◌≤◌, Bool, true, false, Result, Ok, refl}
+use Rattle.std.proofs.Common.{◌≡◌, ℕ, ℤ, Bool, true, false, Ok, refl}
 use Rattle.std.proofs.lemmas.Bool.{and_parts}
-use Rattle.col_model.specs.Cell.{Cell, Cause, null, whole}
+use Rattle.col_model.specs.Cell.{whole}
 use Rattle.col_model.specs.Whole.{is_fitting}
-use Rattle.col_decimal.specs.Decimal.{digit_count, is_within, stored_type}
+use Rattle.col_decimal.specs.Decimal.{is_within, stored_type}
 use Rattle.col_decimal.specs.DecimalStep.{DecimalForm, DecimalOperation, plain, checked}
 use Rattle.col_decimal.specs.DecimalStep.{saturating, by_zero_decimal, decimal_result}
 use Rattle.col_decimal.specs.DecimalStep.{decimal_step, is_by_zero, is_decimal_result}
