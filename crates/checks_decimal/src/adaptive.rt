@@ -1,5 +1,5 @@
-//! Checks of the adaptive form, row by row. The tables are worked out by Python's integers; arrow2's
-//! own vectors are among them.
+//! Checks of the adaptive form, row by row. The tables are worked out by Python's integers;
+//! arrow2's own vectors are among them.
 use crate::arrays::{Decimals, Slots, Step, decimals, told};
 use col_buf::{Bitmap, Buffer};
 use col_flat::PrimitiveArray;

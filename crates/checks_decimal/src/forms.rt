@@ -1,5 +1,5 @@
-//! Checks of the plain, checked and saturating forms and of the calls with a scalar, row by row. The
-//! tables are worked out by Python's integers; arrow2's own vectors are among them.
+//! Checks of the plain, checked and saturating forms and of the calls with a scalar, row by row.
+//! The tables are worked out by Python's integers; arrow2's own vectors are among them.
 use crate::arrays::{Answer, Slots, Step, decimals, told};
 use col_flat::PrimitiveScalar;
 use col_types::{DataType, Error, Reason};

@@ -19,8 +19,8 @@ pub data DecimalOperation : Type 0 where
   multiplication : DecimalOperation
   division : DecimalOperation
 
--- what is done where the result has too many digits: the row is refused, or its cell is null, or the
--- limit of the type with the result's sign
+-- what is done where the result has too many digits: the row is refused, or its cell is null, or
+-- the limit of the type with the result's sign
 pub data DecimalForm : Type 0 where
   plain : DecimalForm
   checked : DecimalForm
