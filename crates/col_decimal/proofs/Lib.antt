@@ -1,0 +1,3 @@
+pub mod AdaptiveLemmas
+pub mod DecimalLemmas
+pub mod StepLemmas

@@ -1,0 +1,113 @@
+//! Quotients of decimals, row by row.
+ghost use Rattle.col_types.specs.Answer.{Answers};
+ghost use Rattle.col_flat.specs.Parts.{column_of, slot_cell};
+ghost use Rattle.col_decimal.specs.Adaptive.{adaptive_answer};
+ghost use Rattle.col_decimal.specs.DecimalStep.{division, checked, decimal_answer};
+ghost use Rattle.col_decimal.specs.DecimalStep.{decimal_scalar_answer, plain, saturating};
+
+use crate::adaptive::adaptive_two;
+use crate::kernels::{Plain, Saturating, checked_two, plain_one, refusing_two};
+use crate::operator::Division;
+use col_flat::{PrimitiveArray, PrimitiveScalar};
+use col_types::Error;
+use std::alloc::Global;
+
+/// Divides the first array of decimals by the second, which has the same parameters, row by row;
+/// the stored dividend is multiplied by 10^s before, s being the scale, and the quotient goes
+/// toward zero. A row where either slot is null is null; the type is that of `lhs`.
+///
+/// Refused, in this order: `Parameters` exactly where precision or scale differ; `Lengths` exactly
+/// where the arrays differ in length; as the least row is refused that has two valid slots and
+/// either a divisor of 0, with `DivideByZero`, or a dividend times 10^s past 128 bits or a quotient
+/// with more digits than the precision, with `Overflow`.
+pub fn div(
+    alloc: Global,
+    lhs: &PrimitiveArray<i128>,
+    rhs: &PrimitiveArray<i128>,
+) -> Result<PrimitiveArray<i128>, Error>
+    ensures answer { Answers column_of result
+        (decimal_answer division plain (column_of lhs.now) (column_of rhs.now)) }
+{
+    refusing_two::<Division, Plain>(alloc, lhs, rhs)
+}
+
+/// Divides each slot of an array of decimals by a scalar with the same parameters; the stored
+/// dividend is multiplied by 10^s before, s being the scale, and the quotient goes toward zero. A
+/// null slot stays null, and where the scalar is null each slot is; the type is that of `lhs`.
+///
+/// Refused, in this order: `Parameters` exactly where precision or scale differ; `DivideByZero`
+/// exactly where the scalar is 0 and some slot is valid; `Overflow` exactly where the stored number
+/// of some valid slot times 10^s passes 128 bits or the quotient has more digits than the
+/// precision.
+pub fn div_scalar(
+    alloc: Global,
+    lhs: &PrimitiveArray<i128>,
+    rhs: &PrimitiveScalar<i128>,
+) -> Result<PrimitiveArray<i128>, Error>
+    ensures answer { Answers column_of result
+        (decimal_scalar_answer division plain (column_of lhs.now)
+        rhs.now.data_type (slot_cell rhs.now.slot)) }
+{
+    plain_one::<Division>(alloc, lhs, rhs)
+}
+
+/// Divides the first array of decimals by the second, which has the same parameters, row by row;
+/// the stored dividend is multiplied by 10^s before, s being the scale, and the quotient goes
+/// toward zero. Where the dividend times 10^s passes 128 bits, or the quotient has more digits than
+/// the precision, it is the greatest number of the precision, or its negative where dividend and
+/// divisor differ in sign. A row where either slot is null is null; the type is that of `lhs`.
+///
+/// Refused, in this order: `Parameters` exactly where precision or scale differ; `Lengths` exactly
+/// where the arrays differ in length; `DivideByZero` exactly where the divisor of some two valid
+/// slots is 0.
+pub fn saturating_div(
+    alloc: Global,
+    lhs: &PrimitiveArray<i128>,
+    rhs: &PrimitiveArray<i128>,
+) -> Result<PrimitiveArray<i128>, Error>
+    ensures answer { Answers column_of result
+        (decimal_answer division saturating (column_of lhs.now) (column_of rhs.now)) }
+{
+    refusing_two::<Division, Saturating>(alloc, lhs, rhs)
+}
+
+/// Divides the first array of decimals by the second, which has the same parameters, row by row;
+/// the stored dividend is multiplied by 10^s before, s being the scale, and the quotient goes
+/// toward zero. A row is null where either slot is null, or where the divisor is 0, the dividend
+/// times 10^s passes 128 bits, or the quotient has more digits than the precision; the type is that
+/// of `lhs`.
+///
+/// Refused, in this order: `Parameters` exactly where precision or scale differ; `Lengths` exactly
+/// where the arrays differ in length.
+pub fn checked_div(
+    alloc: Global,
+    lhs: &PrimitiveArray<i128>,
+    rhs: &PrimitiveArray<i128>,
+) -> Result<PrimitiveArray<i128>, Error>
+    ensures answer { Answers column_of result
+        (decimal_answer division checked (column_of lhs.now) (column_of rhs.now)) }
+{
+    checked_two::<Division>(alloc, lhs, rhs)
+}
+
+/// Divides an array of decimals by one of any parameters, row by row, at the larger of their
+/// scales: the quotient, toward zero, the dividend times 10^s, s being that scale. A row where
+/// either slot is null is null. The answer has that scale and the precision of
+/// `adjusted_precision_scale`, or as many digits as the longest number of a valid row, where these
+/// are more.
+///
+/// Refused, in this order: `Parameters` exactly where the precision of `adjusted_precision_scale`
+/// passes 38; `Lengths` exactly where the arrays differ in length; as the least row is refused that
+/// has two valid slots and either a divisor of 0, with `DivideByZero`, or, with `Overflow`, a
+/// number at the larger scale or the dividend times 10^s past 128 bits, or a result of more than 38
+/// digits.
+pub fn adaptive_div(
+    alloc: Global,
+    lhs: &PrimitiveArray<i128>,
+    rhs: &PrimitiveArray<i128>,
+) -> Result<PrimitiveArray<i128>, Error>
+    ensures answer { Answers column_of result
+        (adaptive_answer division (column_of lhs.now) (column_of rhs.now)) }
+{
+    adaptive_two::<Division>(alloc, lhs, rhs)
+}

@@ -1,0 +1,101 @@
+//! Differences of decimals, row by row.
+ghost use Rattle.col_types.specs.Answer.{Answers};
+ghost use Rattle.col_flat.specs.Parts.{column_of, slot_cell};
+ghost use Rattle.col_decimal.specs.Adaptive.{adaptive_answer};
+ghost use Rattle.col_decimal.specs.DecimalStep.{subtraction, checked, decimal_answer};
+ghost use Rattle.col_decimal.specs.DecimalStep.{decimal_scalar_answer, plain, saturating};
+
+use crate::adaptive::adaptive_two;
+use crate::kernels::{Plain, Saturating, checked_two, plain_one, refusing_two};
+use crate::operator::Subtraction;
+use col_flat::{PrimitiveArray, PrimitiveScalar};
+use col_types::Error;
+use std::alloc::Global;
+
+/// Subtracts an array of decimals from one with the same parameters, row by row. A row where either
+/// slot is null is null; the type is that of `lhs`.
+///
+/// Refused, in this order: `Parameters` exactly where precision or scale differ; `Lengths` exactly
+/// where the arrays differ in length; `Overflow` exactly where the difference of some two valid
+/// slots has more digits than the precision.
+pub fn sub(
+    alloc: Global,
+    lhs: &PrimitiveArray<i128>,
+    rhs: &PrimitiveArray<i128>,
+) -> Result<PrimitiveArray<i128>, Error>
+    ensures answer { Answers column_of result
+        (decimal_answer subtraction plain (column_of lhs.now) (column_of rhs.now)) }
+{
+    refusing_two::<Subtraction, Plain>(alloc, lhs, rhs)
+}
+
+/// Subtracts a scalar from each slot of an array of decimals with the same parameters. A null slot
+/// stays null, and where the scalar is null each slot is; the type is that of `lhs`.
+///
+/// Refused, in this order: `Parameters` exactly where precision or scale differ; `Overflow` exactly
+/// where the difference of some valid slot and the scalar has more digits than the precision.
+pub fn sub_scalar(
+    alloc: Global,
+    lhs: &PrimitiveArray<i128>,
+    rhs: &PrimitiveScalar<i128>,
+) -> Result<PrimitiveArray<i128>, Error>
+    ensures answer { Answers column_of result
+        (decimal_scalar_answer subtraction plain (column_of lhs.now)
+        rhs.now.data_type (slot_cell rhs.now.slot)) }
+{
+    plain_one::<Subtraction>(alloc, lhs, rhs)
+}
+
+/// Subtracts an array of decimals from one with the same parameters, row by row; a difference with
+/// more digits than the precision gives the greatest number of the precision, or its negative, by
+/// the difference's sign. A row where either slot is null is null; the type is that of `lhs`.
+///
+/// Refused, in this order: `Parameters` exactly where precision or scale differ; `Lengths` exactly
+/// where the arrays differ in length.
+pub fn saturating_sub(
+    alloc: Global,
+    lhs: &PrimitiveArray<i128>,
+    rhs: &PrimitiveArray<i128>,
+) -> Result<PrimitiveArray<i128>, Error>
+    ensures answer { Answers column_of result
+        (decimal_answer subtraction saturating (column_of lhs.now) (column_of rhs.now)) }
+{
+    refusing_two::<Subtraction, Saturating>(alloc, lhs, rhs)
+}
+
+/// Subtracts an array of decimals from one with the same parameters, row by row. A row is null
+/// where either slot is null, or where the difference has more digits than the precision; the type
+/// is that of `lhs`.
+///
+/// Refused, in this order: `Parameters` exactly where precision or scale differ; `Lengths` exactly
+/// where the arrays differ in length.
+pub fn checked_sub(
+    alloc: Global,
+    lhs: &PrimitiveArray<i128>,
+    rhs: &PrimitiveArray<i128>,
+) -> Result<PrimitiveArray<i128>, Error>
+    ensures answer { Answers column_of result
+        (decimal_answer subtraction checked (column_of lhs.now) (column_of rhs.now)) }
+{
+    checked_two::<Subtraction>(alloc, lhs, rhs)
+}
+
+/// Subtracts an array of decimals from one of any parameters, row by row, at the larger of their
+/// scales: the difference. A row where either slot is null is null. The answer has that scale and
+/// the precision of `adjusted_precision_scale`, or as many digits as the longest number of a valid
+/// row, where these are more.
+///
+/// Refused, in this order: `Parameters` exactly where the precision of `adjusted_precision_scale`
+/// passes 38; `Lengths` exactly where the arrays differ in length; as the least row is refused that
+/// has two valid slots and a number at the larger scale or the difference past 128 bits, or a
+/// result of more than 38 digits, with `Overflow`.
+pub fn adaptive_sub(
+    alloc: Global,
+    lhs: &PrimitiveArray<i128>,
+    rhs: &PrimitiveArray<i128>,
+) -> Result<PrimitiveArray<i128>, Error>
+    ensures answer { Answers column_of result
+        (adaptive_answer subtraction (column_of lhs.now) (column_of rhs.now)) }
+{
+    adaptive_two::<Subtraction>(alloc, lhs, rhs)
+}
