@@ -86,12 +86,12 @@ pub(crate) fn adaptive_two<O: DecimalOperator>(
 //
 // Refused: `Parameters` where that precision is none.
 fn common_type(lhs: &DataType, rhs: &DataType) -> Result<(usize, Scales), Error>
-    requires left_made { IsMadeOf (kind_of lhs.now) name.Int128 }
-    requires right_made { IsMadeOf (kind_of rhs.now) name.Int128 }
+    requires made { IsMadeOf (kind_of lhs.now) name.Int128
+        × IsMadeOf (kind_of rhs.now) name.Int128 }
     ensures precision { IfOk result
         (λ found. found.0 ≡ first_precision (kind_of lhs.now) (kind_of rhs.now)) }
-    ensures left { IfOk result (λ found. found.1.left ≡ scale_of (kind_of lhs.now)) }
-    ensures right { IfOk result (λ found. found.1.right ≡ scale_of (kind_of rhs.now)) }
+    ensures scales { IfOk result (λ found. (found.1.left ≡ scale_of (kind_of lhs.now))
+        × (found.1.right ≡ scale_of (kind_of rhs.now))) }
     ensures fits { IfOk result
         (λ found. IsTrue (is_fitting_decimal found.0 found.1.bounds.scale)) }
     ensures range { IsOk result
