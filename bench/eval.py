@@ -1,13 +1,15 @@
 #!/usr/bin/env python3
 """Times `col_tool eval` beside Python's own json module, on one large document.
 
-    python3 bench/eval.py [--rows N] [--seed S] [--runs K] [--program PATH] [--beside]
+    python3 bench/eval.py [--mixed] [--rows N] [--seed S] [--runs K] [--program PATH] [--beside]
 
-It makes a document of three Int64 columns and one tree, `c0 c1 add c2 add`, from the seed, and
-then, in turn, runs `col_tool eval` on it and loads the same file by `json.load` in a process of
-its own. Of each it prints the least seconds of the runs, MB/s and the greatest memory, and then
-the ratio of the seconds: below 1, `eval` is ahead. The seconds of `eval` are those of the whole
-process, from its start to its end; those of `json` are of the call of `load` alone.
+It makes a document of three Int64 columns and one tree, `c0 c1 add c2 add`, from the seed; with
+`--mixed` one of five columns of three types, with nulls and with numbers as texts, and four trees
+of three steps. Then, in turn, it runs `col_tool eval` on it and loads the same file by `json.load`
+in a process of its own. Of each it prints the least seconds of the runs, MB/s and the greatest
+memory, and then the ratio of the seconds: below 1, `eval` is ahead. The seconds of `eval` are
+those of the whole process, from its start to its end; those of `json` are of the call of `load`
+alone.
 
 With `--beside` it also times, once each and where they are installed, whole processes of jq on
 the same document, and of Miller and sqlite3 on the same table as CSV, working out the same sums.
@@ -44,6 +46,32 @@ def document(rows, seed):
         values = [None if source.random() < 0.02 else source.randrange(-width, width) for _ in range(rows)]
         columns.append({"type": "Int64", "values": values})
     return json.dumps({"columns": columns, "trees": TREES}, separators=(",", ":")).encode()
+
+
+MIXED_TREES = [
+    ["c0", "c1", "checked_mul", {"type": "Int64", "value": 100}, "div", "c1", "sub"],
+    ["c2", "c3", "saturating_add", {"type": "UInt32", "value": 7}, "rem", "c3", "wrapping_mul"],
+    ["c4", "c4", "checked_mul", "c4", "checked_add", {"type": "Int16", "value": 3}, "checked_div"],
+    ["c0", {"type": "Int64", "value": 2}, "wrapping_mul", "c1", "saturating_sub", "c0", "checked_rem"],
+]
+
+
+def mixed(rows, seed):
+    """The bytes of a document of three types, a tenth of its cells null, some columns as texts."""
+    source = random.Random(seed)
+    columns = []
+    for name, least, greatest, is_text in (
+        ("Int64", -(10**9), 10**9, False),
+        ("Int64", -(10**6), 10**6, True),
+        ("UInt32", 0, 2**32 - 1, False),
+        ("UInt32", 0, 10**6, True),
+        ("Int16", -(2**15), 2**15 - 1, False),
+    ):
+        values = [None if source.random() < 0.1 else source.randint(least, greatest) for _ in range(rows)]
+        if is_text:
+            values = [None if value is None else str(value) for value in values]
+        columns.append({"type": name, "values": values})
+    return json.dumps({"columns": columns, "trees": MIXED_TREES}, separators=(",", ":")).encode()
 
 
 def table(rows, seed):
@@ -93,12 +121,14 @@ def main():
     parser.add_argument("--runs", type=int, default=5)
     parser.add_argument("--program", default=program)
     parser.add_argument("--beside", action="store_true")
+    parser.add_argument("--mixed", action="store_true")
     parser.add_argument("--write", metavar="PATH", help="only write the document there")
     parser.add_argument("--write-csv", metavar="PATH", help="only write the table there, as CSV")
     options = parser.parse_args()
     if options.write:
         with open(options.write, "wb") as file:
-            file.write(document(options.rows, options.seed))
+            make = mixed if options.mixed else document
+            file.write(make(options.rows, options.seed))
         return
     if options.write_csv:
         with open(options.write_csv, "wb") as file:
@@ -113,6 +143,7 @@ def main():
         page = os.path.join(folder, "page")
         # in a process of its own: a process that starts another tells its own memory for it
         make = [sys.executable, __file__, "--rows", str(options.rows), "--seed", str(options.seed), "--write", path]
+        make += ["--mixed"] if options.mixed else []
         subprocess.run(make, check=True)
         megabytes = os.path.getsize(path) / 1e6
         for _ in range(options.runs):
