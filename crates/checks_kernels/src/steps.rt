@@ -5,7 +5,7 @@ use col_eval::{
     mul_scalar, neg, rem, sub, sub_scalar,
 };
 use col_flat::{PrimitiveArray, PrimitiveScalar};
-use col_types::{DataType, Error, IntervalUnit, Reason, TimeUnit, days_ms};
+use col_types::{DataType, Error, IntervalUnit, Reason, TimeUnit};
 use std::alloc::Global;
 
 // A column of numbers of 64 bits.
@@ -135,43 +135,54 @@ fn four_answer(
     Ok([is_sum, is_difference, is_product, is_quotient])
 }
 
-// Whether they do so beside a number or a null.
-fn four_answer_beside(
-    alloc: Global,
-    number: Option<i64>,
-    wanted: [Slots; 4],
-) -> Result<[bool; 4], Error> {
-    let scalar = AnyScalar::Int64(PrimitiveScalar::new(DataType::Int64, number)?);
-    let lhs = column_of(alloc, &[Some(-7), None, Some(6)])?;
-    four_answer(alloc, &lhs, &scalar, wanted)
+// A scalar of 64 bits.
+fn scalar_of(number: Option<i64>) -> Result<AnyScalar, Error> {
+    Ok(AnyScalar::Int64(PrimitiveScalar::new(DataType::Int64, number)?))
 }
 
 #[test]
-fn kernels_answer_on_an_array_and_a_scalar(rt: HostRuntime) -> Result<(), Error> {
+fn kernels_answer_on_an_array_and_a_number(rt: HostRuntime) -> Result<(), Error> {
+    let alloc = rt.alloc();
+    let lhs = column_of(alloc, &[Some(-7), None, Some(6)])?;
+    let rhs = scalar_of(Some(2))?;
     let wanted = [
         [Some(-5), None, Some(8)].as_slice(),
         [Some(-9), None, Some(4)].as_slice(),
         [Some(-14), None, Some(12)].as_slice(),
         [Some(-3), None, Some(3)].as_slice(),
     ];
-    assert_eq!(rt; four_answer_beside(rt.alloc(), Some(2), wanted)?, [true; 4]);
-    let nulls = [[None; 3].as_slice(); 4];
-    assert_eq!(rt; four_answer_beside(rt.alloc(), None, nulls)?, [true; 4]);
+    assert_eq!(rt; four_answer(alloc, &lhs, &rhs, wanted)?, [true; 4]);
+    Ok(())
+}
+
+#[test]
+fn kernels_answer_on_an_array_and_a_null(rt: HostRuntime) -> Result<(), Error> {
+    let alloc = rt.alloc();
+    let lhs = column_of(alloc, &[Some(-7), None, Some(6)])?;
+    let rhs = scalar_of(None)?;
+    let nulls = [None; 3];
+    let wanted = [
+        nulls.as_slice(),
+        nulls.as_slice(),
+        nulls.as_slice(),
+        nulls.as_slice(),
+    ];
+    assert_eq!(rt; four_answer(alloc, &lhs, &rhs, wanted)?, [true; 4]);
     Ok(())
 }
 
 // How a sum of two arrays is refused, where it is.
-fn refusal_of_sum(alloc: Global, lhs: Slots, rhs: Slots) -> Result<Option<Error>, Error> {
-    let lhs = column_of(alloc, lhs)?;
-    let rhs = column_of(alloc, rhs)?;
-    Ok(add(alloc, &lhs, &rhs).err())
+fn refusal_of_sum(alloc: Global, lhs: &AnyArray, rhs: &AnyArray) -> Option<Error> {
+    add(alloc, lhs, rhs).err()
 }
 
 #[test]
 fn arrays_of_two_lengths_are_refused(rt: HostRuntime) -> Result<(), Error> {
+    let alloc = rt.alloc();
+    let lhs = column_of(alloc, &[Some(1), None])?;
+    let rhs = column_of(alloc, &[Some(1)])?;
     let lengths = Some(Error::InvalidArgumentError(Reason::Lengths));
-    let refusal = refusal_of_sum(rt.alloc(), &[Some(1), None], &[Some(1)])?;
-    assert_eq!(rt; refusal, lengths);
+    assert_eq!(rt; refusal_of_sum(alloc, &lhs, &rhs), lengths);
     Ok(())
 }
 
@@ -189,79 +200,61 @@ fn negatives_of_numbers(rt: HostRuntime) -> Result<(), Error> {
 }
 
 // A type of each of the seven native types that have negatives.
-fn signed_types() -> [DataType; 7] {
-    [
-        DataType::Int8,
-        DataType::Int16,
-        DataType::Date32,
-        DataType::Timestamp(TimeUnit::Second, None),
-        DataType::Decimal(38, 0),
-        DataType::Interval(IntervalUnit::DayTime),
-        DataType::Interval(IntervalUnit::MonthDayNano),
-    ]
+fn signed_type(i: usize) -> DataType {
+    match i {
+        0 => DataType::Int8,
+        1 => DataType::Int16,
+        2 => DataType::Date32,
+        3 => DataType::Timestamp(TimeUnit::Second, None),
+        4 => DataType::Decimal(38, 0),
+        5 => DataType::Interval(IntervalUnit::DayTime),
+        _ => DataType::Interval(IntervalUnit::MonthDayNano),
+    }
 }
 
-// Whether the negatives of nulls of a type are nulls of it.
-fn has_negative_nulls(alloc: Global, data_type: DataType) -> Result<bool, Error> {
-    let nulls = AnyArray::new_null(alloc, data_type, 2)?;
-    match neg(alloc, &nulls) {
-        Ok(negatives) => Ok(negatives.equal(&nulls)),
-        Err(error) => Err(error),
+// Whether an array is its own negative.
+fn is_own_negative(alloc: Global, array: &AnyArray) -> bool {
+    match neg(alloc, array) {
+        Ok(negatives) => negatives.equal(array),
+        Err(_) => false,
     }
 }
 
 #[test]
 fn nulls_of_each_signed_type_have_negatives(rt: HostRuntime) -> Result<(), Error> {
-    for data_type in signed_types() {
-        assert!(rt; can_neg(&data_type));
-        assert!(rt; has_negative_nulls(rt.alloc(), data_type)?);
+    for i in 0..7 {
+        let nulls = AnyArray::new_null(rt.alloc(), signed_type(i), 2)?;
+        assert!(rt; can_neg(nulls.data_type()), "type {i}");
+        assert!(rt; is_own_negative(rt.alloc(), &nulls), "type {i}");
     }
     Ok(())
 }
 
-// An interval of days and milliseconds.
-fn interval_of(alloc: Global, value: days_ms) -> Result<AnyArray, Error> {
-    let interval = DataType::Interval(IntervalUnit::DayTime);
-    Ok(AnyArray::from(PrimitiveArray::from_options(alloc, interval, &[Some(value)])?))
-}
-
-// Whether the negative of an interval is another.
-fn is_negative(alloc: Global, value: days_ms, wanted: days_ms) -> Result<bool, Error> {
-    let array = interval_of(alloc, value)?;
-    let wanted = interval_of(alloc, wanted)?;
-    match neg(alloc, &array) {
-        Ok(negative) => Ok(negative.equal(&wanted)),
-        Err(error) => Err(error),
-    }
+// How a negation is refused, where it is.
+fn refusal_of_negatives(alloc: Global, array: &AnyArray) -> Option<Error> {
+    neg(alloc, array).err()
 }
 
 #[test]
-fn intervals_are_negated_field_by_field(rt: HostRuntime) -> Result<(), Error> {
-    assert!(rt; is_negative(rt.alloc(), days_ms::new(1, -2), days_ms::new(-1, 2))?);
-    Ok(())
-}
-
-#[test]
-fn negatives_are_refused(rt: HostRuntime) -> Result<(), Error> {
+fn the_least_number_has_no_negative(rt: HostRuntime) -> Result<(), Error> {
     let least = byte_of(rt.alloc(), Some(-128))?;
-    assert_eq!(rt; neg(rt.alloc(), &least).err(), Some(Error::Overflow));
-    let unsigned = long_of(rt.alloc(), Some(0))?;
     assert_eq!(rt;
-        neg(rt.alloc(), &unsigned).err(),
-        Some(Error::NotYetImplemented)
+        refusal_of_negatives(rt.alloc(), &least),
+        Some(Error::Overflow)
     );
     Ok(())
 }
 
 #[test]
-fn types_without_negatives_are_told(rt: HostRuntime) -> Result<(), Error> {
-    for data_type in [
-        DataType::Time32(TimeUnit::Microsecond),
-        DataType::UInt8,
-        DataType::Boolean,
-        DataType::Utf8,
-    ] {
-        assert!(rt; !can_neg(&data_type));
-    }
+fn numbers_without_a_sign_have_no_negative(rt: HostRuntime) -> Result<(), Error> {
+    let unsigned = long_of(rt.alloc(), Some(0))?;
+    let refusal = refusal_of_negatives(rt.alloc(), &unsigned);
+    assert_eq!(rt; refusal, Some(Error::NotYetImplemented));
+    assert!(rt; !can_neg(unsigned.data_type()));
     Ok(())
+}
+
+#[test]
+fn a_type_that_is_not_carried_has_no_negatives(rt: HostRuntime) {
+    assert!(rt; !can_neg(&DataType::Time32(TimeUnit::Microsecond)));
 }
