@@ -5,7 +5,7 @@ use col_eval::{
     mul_scalar, neg, rem, sub, sub_scalar,
 };
 use col_flat::{PrimitiveArray, PrimitiveScalar};
-use col_types::{DataType, Error, IntervalUnit, Reason, TimeUnit};
+use col_types::{DataType, Error, IntervalUnit, TimeUnit};
 use std::alloc::Global;
 
 // A column of numbers of 64 bits.
@@ -168,21 +168,6 @@ fn kernels_answer_on_an_array_and_a_null(rt: HostRuntime) -> Result<(), Error> {
         nulls.as_slice(),
     ];
     assert_eq!(rt; four_answer(alloc, &lhs, &rhs, wanted)?, [true; 4]);
-    Ok(())
-}
-
-// How a sum of two arrays is refused, where it is.
-fn refusal_of_sum(alloc: Global, lhs: &AnyArray, rhs: &AnyArray) -> Option<Error> {
-    add(alloc, lhs, rhs).err()
-}
-
-#[test]
-fn arrays_of_two_lengths_are_refused(rt: HostRuntime) -> Result<(), Error> {
-    let alloc = rt.alloc();
-    let lhs = column_of(alloc, &[Some(1), None])?;
-    let rhs = column_of(alloc, &[Some(1)])?;
-    let lengths = Some(Error::InvalidArgumentError(Reason::Lengths));
-    assert_eq!(rt; refusal_of_sum(alloc, &lhs, &rhs), lengths);
     Ok(())
 }
 
