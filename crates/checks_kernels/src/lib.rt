@@ -1,4 +1,4 @@
-//! Checks of kernels and of trees: that calls succeed, and what they answer where no document asks.
+//! Checks of kernels: that calls succeed, and what they answer where no document asks.
 #![tactic(auto)]
 
 #[cfg(test)]
@@ -8,10 +8,6 @@ mod bytes;
 #[cfg(test)]
 mod division;
 #[cfg(test)]
-mod eval;
-#[cfg(test)]
 mod single;
-#[cfg(test)]
-mod steps;
 #[cfg(test)]
 mod whole;

@@ -288,19 +288,27 @@ fn the_plain_forms_answer_with_ample_memory(rt: HostRuntime) -> Result<(), Error
     Ok(())
 }
 
+// The slot of an array of one slot.
+fn lone<T: NativeArithmetics>(
+    answer: Result<PrimitiveArray<T>, Error>,
+) -> Result<Option<T>, Error> {
+    let array = answer?;
+    if array.len() != 1 {
+        return Ok(None);
+    }
+    Ok(array.get(0))
+}
+
 // The slots of the greatest number of a type times itself: checked, wrapping, saturating.
 fn squares<T: NativeArithmetics>(
     alloc: Global,
     data_type: DataType,
 ) -> Result<[Option<T>; 3], Error> {
     let array = PrimitiveArray::from_options(alloc, data_type, &[Some(T::MAX_VALUE)])?;
-    let checked = checked_mul(alloc, &array, &array)?;
-    let wrapped = wrapping_mul(alloc, &array, &array)?;
-    let clamped = saturating_mul(alloc, &array, &array)?;
-    if checked.len() != 1 || wrapped.len() != 1 || clamped.len() != 1 {
-        return Ok([None; 3]);
-    }
-    Ok([checked.get(0), wrapped.get(0), clamped.get(0)])
+    let checked = lone(checked_mul(alloc, &array, &array))?;
+    let wrapped = lone(wrapping_mul(alloc, &array, &array))?;
+    let clamped = lone(saturating_mul(alloc, &array, &array))?;
+    Ok([checked, wrapped, clamped])
 }
 
 #[test]
