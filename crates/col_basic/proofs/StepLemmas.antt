@@ -8,7 +8,7 @@ use Rattle.col_model.specs.WholeStep.{Operation, Form, by_zero_answer, checked_r
 use Rattle.col_model.specs.WholeStep.{exact_result, is_by_zero, is_fitting_result, is_flagged}
 use Rattle.col_model.specs.WholeStep.{is_overflowing, overflow_answer, whole_step}
 use Rattle.col_types.specs.Answer.{as_errors}
-use Rattle.col_basic.proofs.RowLemmas.{IsNullBeside, IsStrict}
+use Rattle.col_arity.proofs.StepLemmas.{IsNullBeside, IsStrict}
 
 -- a null beside anything gives null
 pub whole_strict : (operation : Operation) (form : Form) (t : WholeType)

@@ -4,9 +4,9 @@ use Rattle.std.proofs.Common.{Result, Ok, refl}
 use Rattle.std.specs.Prelude.{if◌then◌else◌}
 use Rattle.col_model.specs.Cell.{Cell, null, whole}
 use Rattle.col_model.specs.Whole.{WholeType, checked_number, is_fitting}
-use Rattle.col_basic.specs.Answered.{checked_cell}
+use Rattle.col_arity.specs.Answered.{checked_cell}
 use Rattle.col_basic.specs.Bits.{on_numbers}
-use Rattle.col_basic.proofs.RowLemmas.{IsStrict}
+use Rattle.col_arity.proofs.StepLemmas.{IsStrict}
 
 -- what is worked out of two numbers is null beside a null
 pub numbers_strict : (result : ℤ → ℤ → ℤ) → IsStrict (on_numbers result)

@@ -1,15 +1,11 @@
 -- What the overflowing forms answer: the column of the wrapping form, and a flag for each row.
-use Rattle.std.specs.Prelude.{Bool, List, map, zip, Result, Ok, Err}
+use Rattle.std.specs.Prelude.{Bool, List, map, zip, Result}
 use Rattle.col_model.specs.Cell.{Cell}
 use Rattle.col_model.specs.Whole.{WholeType}
 use Rattle.col_model.specs.WholeStep.{Operation, wrapping, is_flagged, whole_step}
 use Rattle.col_types.specs.Column.{Column, kernel_answer, scalar_answer}
 use Rattle.col_types.specs.declared.error.Error.{Error}
-
--- an answer's column, and flags beside it
-abbrev pub beside_flags : List Bool → Result Column Error → Result (Column × List Bool) Error
-beside_flags flags (Ok c) = Ok (c, flags)
-beside_flags flags (Err e) = Err e
+use Rattle.col_arity.specs.Answered.{beside_flags}
 
 -- for two columns: the flag of a row tells whether the exact number does not fit
 abbrev pub flagged_answer : Operation → WholeType → Column → Column

@@ -5,7 +5,6 @@ pub use Rattle.col_model.specs.WholeStep
 pub use Rattle.col_types.specs.Answer
 pub use Rattle.col_types.specs.Column
 pub use Rattle.col_flat.specs.Parts
-pub mod Answered
 pub mod Bits
 pub mod Flagged
 pub mod Laws

@@ -6,7 +6,7 @@ ghost use Rattle.col_model.specs.WholeStep.{whole_step, wrapping};
 ghost use Rattle.col_types.specs.Answer.{Answers, as_errors};
 ghost use Rattle.col_types.specs.Column.{kernel_answer, scalar_answer};
 ghost use Rattle.col_flat.specs.Parts.{column_of};
-ghost use Rattle.col_basic.specs.Answered.{checked_cell, plain_cell};
+ghost use Rattle.col_arity.specs.Answered.{checked_cell, plain_cell};
 ghost use Rattle.col_basic.specs.Flagged.{flagged_answer, flagged_scalar_answer};
 
 use crate::operator::{Operator, TotalOperator};

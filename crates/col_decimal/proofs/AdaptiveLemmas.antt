@@ -13,7 +13,7 @@ use Rattle.col_types.specs.Column.{Column, kernel_answer, row_count}
 use Rattle.col_types.specs.DataKind.{decimal}
 use Rattle.col_types.specs.declared.error.Error.{Error}
 use Rattle.col_flat.specs.Parts.{PrimitiveParts, column_of}
-use Rattle.col_basic.proofs.RowLemmas.{IsStrict}
+use Rattle.col_arity.proofs.StepLemmas.{IsStrict}
 use Rattle.col_decimal.specs.Adaptive.{adaptive_answer, adaptive_scale}
 use Rattle.col_decimal.specs.Adaptive.{adaptive_step, at_scale, brought_numbers}
 use Rattle.col_decimal.specs.Adaptive.{first_precision, most_digits}

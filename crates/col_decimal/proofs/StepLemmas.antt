@@ -5,9 +5,9 @@ use Rattle.col_model.specs.Cell.{Cell, Cause, null, whole}
 use Rattle.col_model.specs.WholeStep.{each_row}
 use Rattle.col_types.specs.Answer.{as_errors}
 use Rattle.col_types.specs.Column.{Column, row_count, scalar_answer}
-use Rattle.col_basic.specs.Answered.{checked_cell}
-use Rattle.col_basic.proofs.KernelLemmas.{Values}
-use Rattle.col_basic.proofs.RowLemmas.{IsStrict}
+use Rattle.col_arity.specs.Answered.{checked_cell}
+use Rattle.col_arity.proofs.KernelLemmas.{Values}
+use Rattle.col_arity.proofs.StepLemmas.{IsStrict}
 use Rattle.col_decimal.specs.DecimalStep.{DecimalForm, DecimalOperation, checked, checked_decimal}
 use Rattle.col_decimal.specs.DecimalStep.{decimal_result, decimal_step, is_by_zero}
 use Rattle.col_decimal.specs.DecimalStep.{is_decimal_result, unfit_decimal}

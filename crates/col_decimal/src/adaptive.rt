@@ -9,7 +9,7 @@ ghost use Rattle.col_types.specs.declared.error.Reason.TheVariants.{Parameters};
 ghost use Rattle.col_types.specs.DataKind.{decimal, kind_of};
 ghost use Rattle.col_types.specs.DataType.{IsMadeOf, is_fitting_decimal};
 ghost use Rattle.col_flat.specs.Parts.{column_of};
-ghost use Rattle.col_basic.specs.Answered.{plain_cell};
+ghost use Rattle.col_arity.specs.Answered.{plain_cell};
 ghost use Rattle.col_decimal.specs.Adaptive.{adaptive_answer, adaptive_step, brought_numbers};
 ghost use Rattle.col_decimal.specs.Adaptive.{first_precision, most_digits};
 ghost use Rattle.col_decimal.specs.Decimal.{scale_of};

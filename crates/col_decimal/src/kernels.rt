@@ -4,7 +4,7 @@ ghost use Rattle.col_model.specs.Cell.{null, whole};
 ghost use Rattle.col_types.specs.Answer.{Answers, as_errors};
 ghost use Rattle.col_types.specs.Column.{kernel_answer, row_count, scalar_answer};
 ghost use Rattle.col_flat.specs.Parts.{column_of, slot_cell};
-ghost use Rattle.col_basic.specs.Answered.{checked_cell, plain_cell};
+ghost use Rattle.col_arity.specs.Answered.{checked_cell, plain_cell};
 ghost use Rattle.col_decimal.specs.DecimalStep.{DecimalForm, checked, decimal_answer};
 ghost use Rattle.col_decimal.specs.DecimalStep.{decimal_scalar_answer, decimal_step, plain};
 ghost use Rattle.col_decimal.specs.DecimalStep.{unfit_decimal};

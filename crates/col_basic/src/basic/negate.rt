@@ -3,7 +3,7 @@ ghost use Rattle.std.specs.Prelude.{◌≡◌, Ok};
 ghost use Rattle.col_types.specs.Answer.{Answers, as_errors};
 ghost use Rattle.col_types.specs.Column.{unary_answer};
 ghost use Rattle.col_flat.specs.Parts.{column_of, value_cell};
-ghost use Rattle.col_basic.specs.Answered.{checked_cell, plain_cell};
+ghost use Rattle.col_arity.specs.Answered.{checked_cell, plain_cell};
 ghost use Rattle.col_basic.specs.Negative.{checked_negative, plain_negative, wrapping_negative};
 
 use col_arity::{arity_assign, try_unary, unary_checked};

@@ -4,7 +4,7 @@ ghost use Rattle.col_model.specs.Cell.{whole};
 ghost use Rattle.col_types.specs.Answer.{Answers, as_errors};
 ghost use Rattle.col_types.specs.Column.{unary_answer};
 ghost use Rattle.col_flat.specs.Parts.{column_of};
-ghost use Rattle.col_basic.specs.Answered.{checked_cell};
+ghost use Rattle.col_arity.specs.Answered.{checked_cell};
 ghost use Rattle.col_basic.specs.Power.{checked_power};
 
 use col_arity::unary_checked;

@@ -1,6 +1,6 @@
 use Rattle.std.proofs.Common.{rules}
 use Rattle.col_basic.specs.Bits.{on_numbers}
-use Rattle.col_basic.proofs.KernelLemmas.{placed_two, whole_values}
+use Rattle.col_arity.proofs.KernelLemmas.{placed_two, whole_values}
 use Rattle.col_basic.proofs.UnaryLemmas.{numbers_strict}
 use Rattle.col_basic.proofs.bits.bitwise.Goals as goal
 

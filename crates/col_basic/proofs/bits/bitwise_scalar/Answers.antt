@@ -2,7 +2,7 @@ use Rattle.std.proofs.Common.{refl, rules}
 use Rattle.col_model.specs.Cell.{whole}
 use Rattle.col_flat.specs.Parts.{column_of}
 use Rattle.col_basic.specs.Bits.{on_numbers}
-use Rattle.col_basic.proofs.KernelLemmas.{placed_one, scalar-unary, whole_values}
+use Rattle.col_arity.proofs.KernelLemmas.{placed_one, scalar-unary, whole_values}
 use Rattle.col_basic.proofs.bits.bitwise_scalar.Goals as goal
 
 pub returns : goal.returns

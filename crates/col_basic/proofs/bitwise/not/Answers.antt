@@ -1,6 +1,6 @@
 use Rattle.std.proofs.Common.{refl, rules}
 use Rattle.col_basic.specs.Bits.{not_step}
-use Rattle.col_basic.proofs.KernelLemmas.{placed_one, whole_values}
+use Rattle.col_arity.proofs.KernelLemmas.{placed_one, whole_values}
 use Rattle.col_basic.proofs.bitwise.not.Goals as goal
 
 pub returns : goal.returns

@@ -3,7 +3,7 @@ use Rattle.col_model.specs.Cell.{whole}
 use Rattle.col_model.specs.WholeStep.{checked, whole_step}
 use Rattle.col_types.specs.DataKind.{kind_of}
 use Rattle.col_flat.specs.Parts.{column_of}
-use Rattle.col_basic.proofs.KernelLemmas.{options, scalar-unary, total_one, whole_values}
+use Rattle.col_arity.proofs.KernelLemmas.{options, scalar-unary, total_one, whole_values}
 use Rattle.col_basic.proofs.kernels.checked_one.Goals as goal
 
 pub returns : goal.returns

@@ -1,7 +1,7 @@
 use Rattle.std.proofs.Common.{◌∙◌, rules}
 use Rattle.col_model.specs.WholeStep.{checked, whole_step}
 use Rattle.col_types.specs.DataKind.{kind_of}
-use Rattle.col_basic.proofs.KernelLemmas.{options, total_two, whole_values}
+use Rattle.col_arity.proofs.KernelLemmas.{options, total_two, whole_values}
 use Rattle.col_basic.proofs.StepLemmas.{whole_strict}
 use Rattle.col_basic.proofs.kernels.checked_two.Goals as goal
 

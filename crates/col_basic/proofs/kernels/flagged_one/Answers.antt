@@ -3,7 +3,7 @@ use Rattle.col_model.specs.Cell.{whole}
 use Rattle.col_model.specs.WholeStep.{is_flagged, whole_step, wrapping}
 use Rattle.col_types.specs.DataKind.{kind_of}
 use Rattle.col_flat.specs.Parts.{column_of}
-use Rattle.col_basic.proofs.KernelLemmas.{flagged_one, scalar-unary, whole_values}
+use Rattle.col_arity.proofs.KernelLemmas.{flagged_one, scalar-unary, whole_values}
 use Rattle.col_basic.proofs.kernels.flagged_one.Goals as goal
 
 pub returns : goal.returns

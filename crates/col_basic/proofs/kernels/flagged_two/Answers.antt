@@ -1,7 +1,7 @@
 use Rattle.std.proofs.Common.{◌∙◌, rules}
 use Rattle.col_model.specs.WholeStep.{is_flagged, whole_step, wrapping}
 use Rattle.col_types.specs.DataKind.{kind_of}
-use Rattle.col_basic.proofs.KernelLemmas.{flagged_two, whole_values}
+use Rattle.col_arity.proofs.KernelLemmas.{flagged_two, whole_values}
 use Rattle.col_basic.proofs.StepLemmas.{flag_strict, whole_strict}
 use Rattle.col_basic.proofs.kernels.flagged_two.Goals as goal
 

@@ -3,7 +3,7 @@ use Rattle.col_model.specs.Cell.{whole}
 use Rattle.col_model.specs.WholeStep.{plain, whole_step}
 use Rattle.col_types.specs.DataKind.{kind_of}
 use Rattle.col_flat.specs.Parts.{column_of}
-use Rattle.col_basic.proofs.KernelLemmas.{scalar-unary, try_one, whole_values}
+use Rattle.col_arity.proofs.KernelLemmas.{scalar-unary, try_one, whole_values}
 use Rattle.col_basic.proofs.kernels.plain_one.Goals as goal
 
 pub returns : goal.returns

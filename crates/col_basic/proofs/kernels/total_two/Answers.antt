@@ -1,6 +1,6 @@
 use Rattle.std.proofs.Common.{rules}
 use Rattle.col_model.specs.WholeStep.{whole_step}
-use Rattle.col_basic.proofs.KernelLemmas.{placed_two, whole_values}
+use Rattle.col_arity.proofs.KernelLemmas.{placed_two, whole_values}
 use Rattle.col_basic.proofs.StepLemmas.{whole_strict}
 use Rattle.col_basic.proofs.kernels.total_two.Goals as goal
 

@@ -1,7 +1,7 @@
 use Rattle.std.proofs.Common.{rules}
 use Rattle.std.specs.Prelude.{max}
 use Rattle.col_types.specs.DataKind.{decimal}
-use Rattle.col_basic.proofs.KernelLemmas.{try_two}
+use Rattle.col_arity.proofs.KernelLemmas.{try_two}
 use Rattle.col_decimal.specs.Adaptive.{adaptive_step}
 use Rattle.col_decimal.proofs.AdaptiveLemmas.{adaptive_strict}
 use Rattle.col_decimal.proofs.StepLemmas.{stored_values}

@@ -2,7 +2,7 @@ use Rattle.std.proofs.Common.{◌∙◌, refl, rules}
 use Rattle.col_model.specs.Cell.{whole}
 use Rattle.col_types.specs.DataKind.{kind_of}
 use Rattle.col_flat.specs.Parts.{column_of}
-use Rattle.col_basic.proofs.KernelLemmas.{scalar-unary, try_one}
+use Rattle.col_arity.proofs.KernelLemmas.{scalar-unary, try_one}
 use Rattle.col_decimal.specs.DecimalStep.{decimal_step, plain}
 use Rattle.col_decimal.proofs.StepLemmas.{stored_values}
 use Rattle.col_decimal.proofs.kernels.plain_beside.Goals as goal

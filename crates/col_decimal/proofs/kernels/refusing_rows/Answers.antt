@@ -1,6 +1,6 @@
 use Rattle.std.proofs.Common.{◌∙◌, rules}
 use Rattle.col_types.specs.DataKind.{kind_of}
-use Rattle.col_basic.proofs.KernelLemmas.{try_two}
+use Rattle.col_arity.proofs.KernelLemmas.{try_two}
 use Rattle.col_decimal.specs.DecimalStep.{decimal_step}
 use Rattle.col_decimal.proofs.StepLemmas.{decimal_strict, stored_values}
 use Rattle.col_decimal.proofs.kernels.refusing_rows.Goals as goal

@@ -1,7 +1,7 @@
 use Rattle.std.proofs.Common.{◌∙◌, refl, rules}
 use Rattle.col_types.specs.DataKind.{kind_of}
 use Rattle.col_basic.specs.Negative.{plain_negative}
-use Rattle.col_basic.proofs.KernelLemmas.{native_values, try_one}
+use Rattle.col_arity.proofs.KernelLemmas.{native_values, try_one}
 use Rattle.col_basic.proofs.basic.negate.negate.Goals as goal
 
 pub returns : goal.returns

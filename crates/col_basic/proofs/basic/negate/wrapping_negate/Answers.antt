@@ -1,6 +1,6 @@
 use Rattle.std.proofs.Common.{refl, rules}
 use Rattle.col_basic.specs.Negative.{wrapping_negative}
-use Rattle.col_basic.proofs.KernelLemmas.{native_values, placed_one}
+use Rattle.col_arity.proofs.KernelLemmas.{native_values, placed_one}
 use Rattle.col_basic.proofs.basic.negate.wrapping_negate.Goals as goal
 
 pub returns : goal.returns

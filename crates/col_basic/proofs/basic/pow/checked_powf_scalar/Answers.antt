@@ -1,7 +1,7 @@
 use Rattle.std.proofs.Common.{◌∙◌, refl, rules}
 use Rattle.col_types.specs.DataKind.{kind_of}
 use Rattle.col_basic.specs.Power.{checked_power}
-use Rattle.col_basic.proofs.KernelLemmas.{options, total_one, whole_values}
+use Rattle.col_arity.proofs.KernelLemmas.{options, total_one, whole_values}
 use Rattle.col_basic.proofs.basic.pow.checked_powf_scalar.Goals as goal
 
 pub returns : goal.returns

@@ -20,12 +20,11 @@ use Rattle.col_flat.specs.Parts.{PrimitiveParts, column_of, pair_numbers, slot_c
 use Rattle.col_flat.specs.Parts.{slots_of, value_cell}
 use Rattle.col_arity.specs.Rows.{AnswersWith, IsLengths, IsMapped, IsMappedWithFlags}
 use Rattle.col_arity.specs.Rows.{RefusesFirst, RefusesWith}
-use Rattle.col_basic.specs.Answered.{checked_cell}
-use Rattle.col_basic.specs.Flagged.{beside_flags}
-use Rattle.col_basic.proofs.RowLemmas.{IsNullBeside, IsStrict, cells_of_one, each_slot}
-use Rattle.col_basic.proofs.RowLemmas.{flags_of_one, flags_of_two, on_one, on_two, rows_apart}
-use Rattle.col_basic.proofs.RowLemmas.{rows_beside, rows_of_two, slot_flag, slots_made}
-use Rattle.col_basic.proofs.RowLemmas.{slots_refused}
+use Rattle.col_arity.specs.Answered.{beside_flags, checked_cell}
+use Rattle.col_arity.proofs.StepLemmas.{IsNullBeside, IsStrict, cells_of_one, each_slot}
+use Rattle.col_arity.proofs.StepLemmas.{flags_of_one, flags_of_two, on_one, on_two, rows_apart}
+use Rattle.col_arity.proofs.StepLemmas.{rows_beside, rows_of_two, slot_flag, slots_made}
+use Rattle.col_arity.proofs.StepLemmas.{slots_refused}
 
 -- the values of a native type: their numbers, and the cells that these stand for
 pub record Values (T : Type 0) : Type 0 where
