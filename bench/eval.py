@@ -11,8 +11,9 @@ memory, and then the ratio of the seconds: below 1, `eval` is ahead. The seconds
 those of the whole process, from its start to its end; those of `json` are of the call of `load`
 alone.
 
-With `--beside` it also times, once each and where they are installed, whole processes of jq on
-the same document, and of Miller and sqlite3 on the same table as CSV, working out the same sums.
+With `--beside`, which does not go with `--mixed`, it also times, once each and where they are
+installed, whole processes of jq on the same document, and of Miller and sqlite3 on the same table
+as CSV, working out the same sums.
 
 It stands on Python's standard library alone, and is no part of the tests. The program has to
 be built first: `rt run` in crates/col_tool builds it.
@@ -125,6 +126,8 @@ def main():
     parser.add_argument("--write", metavar="PATH", help="only write the document there")
     parser.add_argument("--write-csv", metavar="PATH", help="only write the table there, as CSV")
     options = parser.parse_args()
+    if options.mixed and (options.beside or options.write_csv):
+        parser.error("--beside and --write-csv are for the document without --mixed")
     if options.write:
         with open(options.write, "wb") as file:
             make = mixed if options.mixed else document

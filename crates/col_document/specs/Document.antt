@@ -163,7 +163,7 @@ only_tree [] = None
 only_tree (t ∷ []) = Some t
 only_tree (t ∷ u ∷ trees) = None
 
--- a tree: a list in postfix order that leaves exactly one tree
+-- a tree: the list of its items in postfix order, none left over
 abbrev pub tree_read : Data → Option Tree
 tree_read d = do
   items ← as_array d

@@ -51,7 +51,7 @@ pub fn read_trees(alloc: Global, values: &[Value]) -> Result<Vec<Expr>, ReadErro
     Ok(trees)
 }
 
-/// A tree: a list in postfix order that leaves exactly one tree, of at most 256 levels.
+/// A tree: the list of its items in postfix order, none left over, with no more than 256 levels.
 ///
 /// Refused: `Malformed` where the value is none.
 pub fn read_tree(alloc: Global, value: &Value) -> Result<Expr, ReadError>
