@@ -1,3 +1,4 @@
 pub mod AdaptiveLemmas
 pub mod DecimalLemmas
+pub mod PrecisionLemmas
 pub mod StepLemmas

@@ -79,15 +79,14 @@ pub fn checked_add(
     checked_two::<Addition>(alloc, lhs, rhs)
 }
 
-/// Adds two arrays of decimals of any parameters, row by row, at the larger of their scales: the
-/// sum. A row where either slot is null is null. The answer has that scale and the precision of
-/// `adjusted_precision_scale`, or as many digits as the longest number of a valid row, where these
-/// are more.
+/// Adds two arrays of decimals of any parameters, row by row, at the larger of their scales; null
+/// where either slot is null. The answer has that scale and the precision of
+/// `adjusted_precision_scale`, or as many digits as the longest number in it, where these are more.
 ///
 /// Refused, in this order: `Parameters` exactly where the precision of `adjusted_precision_scale`
-/// passes 38; `Lengths` exactly where the arrays differ in length; as the least row is refused that
-/// has two valid slots and a number at the larger scale or the sum past 128 bits, or a result of
-/// more than 38 digits, with `Overflow`.
+/// passes 38; `Lengths` exactly where the arrays differ in length; `Overflow` exactly where some
+/// two valid slots have a number at that scale or a sum past 128 bits, or a sum of more than 38
+/// digits.
 pub fn adaptive_add(
     alloc: Global,
     lhs: &PrimitiveArray<i128>,

@@ -51,15 +51,14 @@ pub fn div_scalar(
     plain_one::<Division>(alloc, lhs, rhs)
 }
 
-/// Divides the first array of decimals by the second, which has the same parameters, row by row;
-/// the stored dividend is multiplied by 10^s before, s being the scale, and the quotient goes
-/// toward zero. Where the dividend times 10^s passes 128 bits, or the quotient has more digits than
-/// the precision, it is the greatest number of the precision, or its negative where dividend and
-/// divisor differ in sign. A row where either slot is null is null; the type is that of `lhs`.
+/// Divides two arrays of decimals with the same parameters, row by row: the stored dividend times
+/// 10^s, s being the scale, by the divisor, toward zero; null where either slot is null. Where that
+/// dividend passes 128 bits, or the quotient the precision, it is the limit of the precision,
+/// negative where the two numbers differ in sign. The type is that of `lhs`.
 ///
 /// Refused, in this order: `Parameters` exactly where precision or scale differ; `Lengths` exactly
-/// where the arrays differ in length; `DivideByZero` exactly where the divisor of some two valid
-/// slots is 0.
+/// where the arrays differ in length; `DivideByZero` exactly where some valid slots have the
+/// divisor 0.
 pub fn saturating_div(
     alloc: Global,
     lhs: &PrimitiveArray<i128>,
@@ -90,17 +89,14 @@ pub fn checked_div(
     checked_two::<Division>(alloc, lhs, rhs)
 }
 
-/// Divides an array of decimals by one of any parameters, row by row, at the larger of their
-/// scales: the quotient, toward zero, the dividend times 10^s, s being that scale. A row where
-/// either slot is null is null. The answer has that scale and the precision of
-/// `adjusted_precision_scale`, or as many digits as the longest number of a valid row, where these
-/// are more.
+/// Divides two arrays of decimals of any parameters, row by row, at the larger of their scales, s:
+/// the dividend times 10^s by the divisor, toward zero; null where either is null. The scale is s,
+/// the precision that of `adjusted_precision_scale` or of the longest number, where that is more.
 ///
 /// Refused, in this order: `Parameters` exactly where the precision of `adjusted_precision_scale`
-/// passes 38; `Lengths` exactly where the arrays differ in length; as the least row is refused that
-/// has two valid slots and either a divisor of 0, with `DivideByZero`, or, with `Overflow`, a
-/// number at the larger scale or the dividend times 10^s past 128 bits, or a result of more than 38
-/// digits.
+/// passes 38; `Lengths` exactly where the arrays differ in length; the cause of the least valid row
+/// that has one: `DivideByZero`, or `Overflow` for a number past 128 bits on the way, or for more
+/// than 38 digits.
 pub fn adaptive_div(
     alloc: Global,
     lhs: &PrimitiveArray<i128>,

@@ -86,15 +86,14 @@ pub fn checked_mul(
     checked_two::<Multiplication>(alloc, lhs, rhs)
 }
 
-/// Multiplies two arrays of decimals of any parameters, row by row, at the larger of their scales:
-/// the product by 10^s, toward zero, s being that scale. A row where either slot is null is null.
-/// The answer has that scale and the precision of `adjusted_precision_scale`, or as many digits as
-/// the longest number of a valid row, where these are more.
+/// Multiplies two arrays of decimals of any parameters, row by row, at the larger of their scales,
+/// s: the product by 10^s, toward zero; null where either is null. The answer has that scale and
+/// the precision of `adjusted_precision_scale`, or of its longest number, where that is more.
 ///
 /// Refused, in this order: `Parameters` exactly where the precision of `adjusted_precision_scale`
-/// passes 38; `Lengths` exactly where the arrays differ in length; as the least row is refused that
-/// has two valid slots and a number at the larger scale or the product past 128 bits, or a result
-/// of more than 38 digits, with `Overflow`.
+/// passes 38; `Lengths` exactly where the arrays differ in length; `Overflow` exactly where some
+/// two valid slots have a number at that scale or a product past 128 bits, or a result of more than
+/// 38 digits.
 pub fn adaptive_mul(
     alloc: Global,
     lhs: &PrimitiveArray<i128>,

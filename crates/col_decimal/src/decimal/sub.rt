@@ -81,14 +81,13 @@ pub fn checked_sub(
 }
 
 /// Subtracts an array of decimals from one of any parameters, row by row, at the larger of their
-/// scales: the difference. A row where either slot is null is null. The answer has that scale and
-/// the precision of `adjusted_precision_scale`, or as many digits as the longest number of a valid
-/// row, where these are more.
+/// scales; null where either slot is null. The answer has that scale and the precision of
+/// `adjusted_precision_scale`, or as many digits as the longest number in it, where these are more.
 ///
 /// Refused, in this order: `Parameters` exactly where the precision of `adjusted_precision_scale`
-/// passes 38; `Lengths` exactly where the arrays differ in length; as the least row is refused that
-/// has two valid slots and a number at the larger scale or the difference past 128 bits, or a
-/// result of more than 38 digits, with `Overflow`.
+/// passes 38; `Lengths` exactly where the arrays differ in length; `Overflow` exactly where some
+/// two valid slots have a number at that scale or a difference past 128 bits, or a difference of
+/// more than 38 digits.
 pub fn adaptive_sub(
     alloc: Global,
     lhs: &PrimitiveArray<i128>,
