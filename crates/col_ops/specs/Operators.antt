@@ -1,4 +1,4 @@
--- What the operators of whole numbers answer for a column beside an array, or beside a number.
+-- What the operators answer for a column beside an array, or beside a number.
 use Rattle.std.specs.Prelude.{ℤ, Bool, List, Result}
 use Rattle.col_model.specs.Cell.{whole}
 use Rattle.col_model.specs.Whole.{WholeType}
@@ -7,6 +7,7 @@ use Rattle.col_types.specs.Column.{Column, kernel_answer, scalar_answer}
 use Rattle.col_types.specs.declared.error.Error.{Error}
 use Rattle.col_flat.specs.Parts.{PrimitiveParts, column_of}
 use Rattle.col_basic.specs.Flagged.{flagged_answer, flagged_scalar_answer}
+use Rattle.col_decimal.specs.DecimalStep.{DecimalForm, DecimalOperation, decimal_answer}
 
 -- an array stands beside the column, row by row
 abbrev pub beside_array : Operation → Form → WholeType → Column → PrimitiveParts
@@ -30,3 +31,8 @@ abbrev pub flagged_beside_number : {T : Type 0} → Operation → WholeType → 
     → Result (Column × List Bool) Error
 flagged_beside_number operation t value left x =
     flagged_scalar_answer operation t left (whole (value x))
+
+-- an array of decimals stands beside the column, row by row
+abbrev pub beside_decimals : DecimalOperation → DecimalForm → Column → PrimitiveParts
+    → Result Column Error
+beside_decimals operation form left right = decimal_answer operation form left (column_of right)

@@ -1,6 +1,7 @@
 //! Operators of arrays: a trait for each operation in each form.
 #![tactic(auto)]
 
+mod decimal;
 mod traits;
 mod whole;
 

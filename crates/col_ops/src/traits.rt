@@ -12,6 +12,7 @@ use std::alloc::Global;
 ///
 /// Arrays of whole numbers are refused, in this order: `Lengths` where two of them differ in
 /// length; `Overflow` where the sum at some row does not fit.
+/// Arrays of decimals answer and are refused as by `col_decimal::add`.
 pub trait ArrayAdd<Rhs>: Sized {
     /// The column that an array stands for.
     ghost column: { Self → Column };
@@ -42,6 +43,7 @@ pub trait ArrayWrappingAdd<Rhs>: Sized {
 /// Adds, row by row. A row whose sum does not fit is null.
 ///
 /// Arrays of whole numbers are refused where two of them differ in length, with `Lengths`.
+/// Arrays of decimals answer and are refused as by `col_decimal::checked_add`.
 pub trait ArrayCheckedAdd<Rhs>: Sized {
     /// The column that an array stands for.
     ghost column: { Self → Column };
@@ -57,6 +59,7 @@ pub trait ArrayCheckedAdd<Rhs>: Sized {
 /// Adds, row by row. A sum past an end of the type is that end.
 ///
 /// Arrays of whole numbers are refused where two of them differ in length, with `Lengths`.
+/// Arrays of decimals answer and are refused as by `col_decimal::saturating_add`.
 pub trait ArraySaturatingAdd<Rhs>: Sized {
     /// The column that an array stands for.
     ghost column: { Self → Column };
@@ -90,6 +93,7 @@ pub trait ArrayOverflowingAdd<Rhs>: Sized {
 ///
 /// Arrays of whole numbers are refused, in this order: `Lengths` where two of them differ in
 /// length; `Overflow` where the difference at some row does not fit.
+/// Arrays of decimals answer and are refused as by `col_decimal::sub`.
 pub trait ArraySub<Rhs>: Sized {
     /// The column that an array stands for.
     ghost column: { Self → Column };
@@ -120,6 +124,7 @@ pub trait ArrayWrappingSub<Rhs>: Sized {
 /// Subtracts, row by row. A row whose difference does not fit is null.
 ///
 /// Arrays of whole numbers are refused where two of them differ in length, with `Lengths`.
+/// Arrays of decimals answer and are refused as by `col_decimal::checked_sub`.
 pub trait ArrayCheckedSub<Rhs>: Sized {
     /// The column that an array stands for.
     ghost column: { Self → Column };
@@ -135,6 +140,7 @@ pub trait ArrayCheckedSub<Rhs>: Sized {
 /// Subtracts, row by row. A difference past an end of the type is that end.
 ///
 /// Arrays of whole numbers are refused where two of them differ in length, with `Lengths`.
+/// Arrays of decimals answer and are refused as by `col_decimal::saturating_sub`.
 pub trait ArraySaturatingSub<Rhs>: Sized {
     /// The column that an array stands for.
     ghost column: { Self → Column };
@@ -168,6 +174,7 @@ pub trait ArrayOverflowingSub<Rhs>: Sized {
 ///
 /// Arrays of whole numbers are refused, in this order: `Lengths` where two of them differ in
 /// length; `Overflow` where the product at some row does not fit.
+/// Arrays of decimals answer and are refused as by `col_decimal::mul`.
 pub trait ArrayMul<Rhs>: Sized {
     /// The column that an array stands for.
     ghost column: { Self → Column };
@@ -198,6 +205,7 @@ pub trait ArrayWrappingMul<Rhs>: Sized {
 /// Multiplies, row by row. A row whose product does not fit is null.
 ///
 /// Arrays of whole numbers are refused where two of them differ in length, with `Lengths`.
+/// Arrays of decimals answer and are refused as by `col_decimal::checked_mul`.
 pub trait ArrayCheckedMul<Rhs>: Sized {
     /// The column that an array stands for.
     ghost column: { Self → Column };
@@ -213,6 +221,7 @@ pub trait ArrayCheckedMul<Rhs>: Sized {
 /// Multiplies, row by row. A product past an end of the type is that end.
 ///
 /// Arrays of whole numbers are refused where two of them differ in length, with `Lengths`.
+/// Arrays of decimals answer and are refused as by `col_decimal::saturating_mul`.
 pub trait ArraySaturatingMul<Rhs>: Sized {
     /// The column that an array stands for.
     ghost column: { Self → Column };
@@ -248,6 +257,7 @@ pub trait ArrayOverflowingMul<Rhs>: Sized {
 /// Arrays of whole numbers are refused, in this order: `Lengths` where two of them differ in
 /// length; then as the least row is that has a divisor of 0, with `DivideByZero`, or a quotient
 /// that does not fit, with `Overflow`.
+/// Arrays of decimals answer and are refused as by `col_decimal::div`.
 pub trait ArrayDiv<Rhs>: Sized {
     /// The column that an array stands for.
     ghost column: { Self → Column };
@@ -264,6 +274,7 @@ pub trait ArrayDiv<Rhs>: Sized {
 /// does not fit, is null.
 ///
 /// Arrays of whole numbers are refused where two of them differ in length, with `Lengths`.
+/// Arrays of decimals answer and are refused as by `col_decimal::checked_div`.
 pub trait ArrayCheckedDiv<Rhs>: Sized {
     /// The column that an array stands for.
     ghost column: { Self → Column };
