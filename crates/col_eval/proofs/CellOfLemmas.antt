@@ -18,10 +18,10 @@ use Rattle.col_eval.specs.Typing.{is_literal, max_levels, right_type, step_type,
 use Rattle.col_eval.specs.Typing.{typing_of}
 use Rattle.col_eval.specs.Meaning.{RowAnswer, cell, refused_at, at_step, outcome_of}
 use Rattle.col_eval.specs.Meaning.{row_meaning, rows_meaning, rows_of, step_of}
+use Rattle.col_eval.proofs.EntryLemmas.{entry_cell-type}
 use Rattle.col_eval.proofs.GatherLemmas.{row_step}
 use Rattle.col_eval.proofs.OperandLemmas.{typed_parts}
 use Rattle.col_eval.proofs.RefusalLemmas.{IsGatheredFrom-gathered}
-use Rattle.col_eval.proofs.RuleLemmas.{entry_cell-type}
 
 -- the cell of a step with a type
 typed_cell : (op : Op) (is_literal : Bool) (s t : Result DataKind Error) (u : DataKind)

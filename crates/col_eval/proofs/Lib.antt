@@ -1,5 +1,7 @@
-pub mod GatherLemmas
 pub mod CellOfLemmas
+pub mod DecimalRuleLemmas
+pub mod EntryLemmas
+pub mod GatherLemmas
 pub mod NegationLemmas
 pub mod OperandLemmas
 pub mod RefusalLemmas

@@ -26,6 +26,7 @@ use Rattle.col_eval.specs.Typing.{is_literal, right_type, type_of}
 use Rattle.col_eval.specs.Meaning.{cell, RowsAnswer, all_cells, refusal, row_meaning, rows_of}
 use Rattle.col_eval.specs.Meaning.{step_of, typed_rows, rows_meaning}
 use Rattle.col_eval.specs.Operand.{operand_outcome}
+use Rattle.col_eval.proofs.EntryLemmas.{beside_literal-typed}
 use Rattle.col_eval.proofs.GatherLemmas.{at_rows, gathered-cells, gathered-row_step, rows_step}
 use Rattle.col_eval.proofs.RefusalLemmas.{IsGatheredFrom-gathered}
 use Rattle.col_eval.proofs.RuleLemmas.{row_count-constant}
@@ -202,9 +203,12 @@ pub operand_outcome-scalar : (op : Op) (left : Tree) (t : DataKind) (c : Cell) (
     → operand_outcome (step op left (literal t c)) table ≡ scalar_step_answer op l t c
 operand_outcome-scalar op left t c table l typed hl =
     let left_parts = typed_parts (type_of left (types_of table)) (rows_meaning left table) l hl in
+    let entry = entry_of op l.data_type t in
+    let taken = beside_literal-typed entry (rw left_parts.0 at typed) in
     operand_outcome-step op left (literal t c) table l (constant_column t c l) typed hl refl
     (rows_meaning-literal t c table (row_count l)
     (length-rows_meaning left table l.cells left_parts.1)) (row_count-constant t c l)
+    ∙ ap (λ (row : Option Entry). entry_answer row l (constant_column t c l)) (sym taken)
 
 -- a refusal of the left operand is the step's
 pub operand_outcome-left : (op : Op) (left right : Tree) (table : List Column) (e : Error)

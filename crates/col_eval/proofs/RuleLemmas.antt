@@ -1,6 +1,6 @@
 -- What the rules of the table of steps say, and what steps answer by them.
-use Rattle.std.proofs.Common.{◌≡◌, ℤ, Bool, true, false, not, ◌&&◌, cond, List, [], ◌∷◌, length}
-use Rattle.std.proofs.Common.{replicate, Option, None, Some, option_map, Result, Ok, Err, inl, inr}
+use Rattle.std.proofs.Common.{◌≡◌, ℤ, Bool, true, false, List, [], ◌∷◌, length}
+use Rattle.std.proofs.Common.{replicate, Option, None, Some, option_map, Ok, inl, inr}
 use Rattle.std.proofs.Common.{refl, sym, ap, ◌∙◌, eq-eqb}
 use Rattle.std.specs.Int.{w8, w16, w32, w64}
 use Rattle.std.proofs.lemmas.List.{length-replicate}
@@ -17,14 +17,12 @@ use Rattle.col_types.specs.declared.datatypes.physical_type.PhysicalType.{Physic
 use Rattle.col_types.specs.declared.datatypes.physical_type.PhysicalType.TheVariants as physical
 use Rattle.col_types.specs.declared.datatypes.physical_type.PrimitiveType.{PrimitiveType}
 use Rattle.col_types.specs.declared.datatypes.physical_type.PrimitiveType.TheVariants as primitive
-use Rattle.col_types.specs.declared.error.Error.{Error}
-use Rattle.col_types.specs.declared.error.Error.TheVariants.{NotYetImplemented}
 use Rattle.col_flat.specs.Parts.{slot_cell}
 use Rattle.col_basic.proofs.FormLemmas as forms
-use Rattle.col_eval.specs.declared.entries.Rule.{Rule}
+use Rattle.col_decimal.specs.DecimalStep.{DecimalForm, DecimalOperation}
 use Rattle.col_eval.specs.declared.entries.Rule.TheVariants.{WholeNumbers}
 use Rattle.col_eval.specs.declared.expr.Op.{Op}
-use Rattle.col_eval.specs.Entries.{entry_by, entry_cell, entry_of, entry_type, form_of}
+use Rattle.col_eval.specs.Entries.{decimal_form, decimal_operation, decimal_rule, form_of}
 use Rattle.col_eval.specs.Entries.{operation_of, rule_of, typed_step}
 use Rattle.col_eval.specs.Steps.{constant_column, scalar_step_answer, step_answer}
 
@@ -37,14 +35,14 @@ is_whole_layout (physical.Primitive native) = true
 is_whole_layout _ = false
 
 -- a type of whole numbers: its numbers, and how they are stored
-record IsWholeKind (t : DataKind) : Type 0 where
-  numbers : WholeType
-  native : PrimitiveType
-  whole : whole_type_of t ≡ Some numbers
-  stored : IsStoredAs t native
-  field : fields_of native ≡ numbers ∷ []
-  values : value_fields t ≡ numbers ∷ []
-  layout : is_whole_layout (physical_type_of t) ≡ true
+pub record IsWholeKind (t : DataKind) : Type 0 where
+  pub numbers : WholeType
+  pub native : PrimitiveType
+  pub whole : whole_type_of t ≡ Some numbers
+  pub stored : IsStoredAs t native
+  pub field : fields_of native ≡ numbers ∷ []
+  pub values : value_fields t ≡ numbers ∷ []
+  pub layout : is_whole_layout (physical_type_of t) ≡ true
 
 whole_kind : (t : DataKind) (w : WholeType) (n : PrimitiveType) → whole_type_of t ≡ Some w
     → IsStoredAs t n → fields_of n ≡ w ∷ [] → value_fields t ≡ w ∷ []
@@ -59,8 +57,15 @@ whole_kind t w n known stored field values layout = record {
   layout = layout;
 }
 
+-- decimals have a rule of their own
+other_rule : (operation : Option DecimalOperation) (form : Option DecimalForm)
+    → decimal_rule operation form ≡ Some WholeNumbers → ⊥
+other_rule (Some operation) (Some form) h = cc
+other_rule (Some operation) None h = cc
+other_rule None form h = cc
+
 -- a step by the rule of whole numbers has two operands of one such type
-taken_kind : (op : Op) (s t : DataKind) → rule_of op s t ≡ Some WholeNumbers
+pub taken_kind : (op : Op) (s t : DataKind) → rule_of op s t ≡ Some WholeNumbers
     → (s ≡ t) × IsWholeKind s
 taken_kind op kind.int8 kind.int8 h =
     (refl, whole_kind kind.int8 (signed w8) primitive.Int8 refl refl refl refl refl)
@@ -78,6 +83,8 @@ taken_kind op kind.uint32 kind.uint32 h =
     (refl, whole_kind kind.uint32 (unsigned w32) primitive.UInt32 refl refl refl refl refl)
 taken_kind op kind.uint64 kind.uint64 h =
     (refl, whole_kind kind.uint64 (unsigned w64) primitive.UInt64 refl refl refl refl refl)
+taken_kind op (kind.decimal p s) (kind.decimal q t) h =
+    absurd (other_rule (decimal_operation (operation_of op)) (decimal_form (form_of op)) h)
 taken_kind op _ _ h = absurd cc
 
 -- what is stored as a native type of one field holds whole numbers of that field's type, where a
@@ -145,39 +152,13 @@ scalar_step_answer-null op l t h =
     rw (h, e, each_row-null op (whole_type_of l.data_type) l.cells) refl
 
 -- a step on whole numbers gives a cell of their type
-typed_step-cell : (op : Op) (s : DataKind) (w : WholeType) (a b c : Cell)
+pub typed_step-cell : (op : Op) (s : DataKind) (w : WholeType) (a b c : Cell)
     → value_fields s ≡ w ∷ [] → typed_step op (Some w) a b ≡ Ok c → is_cell_of s c ≡ true
 typed_step-cell op s w a b c h g =
     elim (forms.typed_step (operation_of op) (form_of op) w a b c g) [
       | inl is_null ↦ rw is_null refl
       | inr fits ↦ rw (fits.1.0, h) fits.1.1
     ]
-
--- a choice that is no refusal
-chosen : (b : Bool) (e : Error) (r : Result DataKind Error) (u : DataKind)
-    → cond b (Err e) r ≡ Ok u → r ≡ Ok u
-chosen true e r u h = absurd cc
-chosen false e r u h = h
-
--- a step gives a cell of the type that its rule says
-rule_cell : (rule : Option Rule) (op : Op) (is_literal : Bool) (s t u : DataKind) (a b c : Cell)
-    → rule_of op s t ≡ rule
-    → entry_type is_literal (option_map (λ r. entry_by r op s t) rule) ≡ Ok u
-    → entry_cell (option_map (λ r. entry_by r op s t) rule) a b ≡ Ok c → is_cell_of u c ≡ true
-rule_cell None op is_literal s t u a b c r h g = absurd cc
-rule_cell (Some WholeNumbers) op is_literal s t u a b c r h g =
-    let k = (taken_kind op s t r).1 in
-    let kept = chosen (is_literal && not true) NotYetImplemented (Ok s) u h in
-    let same : s ≡ u = cc in
-    let cells = rw k.whole at g in
-    rw (← same) (typed_step-cell op s k.numbers a b c k.values cells)
-
--- the cell of a step with a type is one of that type
-pub entry_cell-type : (op : Op) (is_literal : Bool) (s t u : DataKind) (a b c : Cell)
-    → entry_type is_literal (entry_of op s t) ≡ Ok u → entry_cell (entry_of op s t) a b ≡ Ok c
-    → is_cell_of u c ≡ true
-entry_cell-type op is_literal s t u a b c h g =
-    rule_cell (rule_of op s t) op is_literal s t u a b c refl h g
 
 -- the cell of a slot with one number
 pub slot_cell-number : {T : Type 0} (numbers : T → List ℤ) (value : T → ℤ) (x : T)

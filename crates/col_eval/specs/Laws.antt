@@ -106,13 +106,11 @@ TableRefusalIsOfItsFirstStep =
     → rows_meaning tree table ≡ refusal number cause
     → IsFirstToFail (GivesCells table) (IsRefusedFor table cause) number tree
 
--- a tree with a type, and a table of which it refuses no row, give a column
-abbrev pub UnrefusedTablesHaveColumns : Type 0
-UnrefusedTablesHaveColumns =
-    (tree : Tree) (table : List Column) → IsOk (typing_of tree (types_of table))
-    → ((row number : ℕ) (cause : Cause) → row < table_row_count table
-    → row_meaning tree (types_of table) (row_at table row) ≢ refused_at number cause)
-    → IsOk (outcome_of tree table)
+-- a tree with a type that refuses no row of a table
+pub record IsUnrefused (tree : Tree) (table : List Column) : Type 0 where
+  pub typed : IsOk (typing_of tree (types_of table))
+  pub passes : (row number : ℕ) (cause : Cause) → row < table_row_count table
+      → row_meaning tree (types_of table) (row_at table row) ≢ refused_at number cause
 
 -- where each column of a table holds cells of its type, so does the outcome
 abbrev pub OutcomeHoldsItsCells : Type 0

@@ -9,7 +9,9 @@ use Rattle.col_types.specs.declared.error.Error.TheVariants.{InvalidArgumentErro
 use Rattle.col_types.specs.declared.error.Error.TheVariants.{NotYetImplemented}
 use Rattle.col_types.specs.declared.error.Reason.TheVariants.{Lengths}
 use Rattle.col_eval.specs.declared.expr.Op.{Op}
-use Rattle.col_eval.specs.Entries.{Entry, entry_of}
+use Rattle.col_decimal.specs.DecimalStep.{DecimalForm, DecimalOperation, decimal_answer}
+use Rattle.col_decimal.specs.DecimalStep.{decimal_scalar_answer, plain}
+use Rattle.col_eval.specs.Entries.{Entry, beside_literal, entry_of}
 
 -- a refusal of the types, else what is answered with a type
 abbrev pub with_type : Result DataKind Error → (DataKind → Result Column Error)
@@ -41,6 +43,22 @@ step_answer op left right = entry_answer (entry_of op left.data_type right.data_
 abbrev pub constant_column : DataKind → Cell → Column → Column
 constant_column t cell beside = record { data_type = t; cells = replicate (row_count beside) cell }
 
--- what a step answers for a column and a scalar of a type: the scalar's cell stands beside each row
+-- what a step answers for a column and a scalar of a type: the scalar's cell stands beside each row,
+-- and a row that takes no literal is none
 abbrev pub scalar_step_answer : Op → Column → DataKind → Cell → Result Column Error
-scalar_step_answer op left t cell = step_answer op left (constant_column t cell left)
+scalar_step_answer op left t cell =
+    entry_answer (beside_literal (entry_of op left.data_type t)) left (constant_column t cell left)
+
+-- what the kernel of an operation and a form answers for two columns of decimals
+abbrev pub decimals_answer : Option DecimalOperation → Option DecimalForm → Column → Column
+    → Result Column Error
+decimals_answer (Some operation) (Some form) left right =
+    decimal_answer operation form left right
+decimals_answer _ _ left right = Err NotYetImplemented
+
+-- the same for a column and a scalar, which the plain form alone has
+abbrev pub decimals_scalar_answer : Option DecimalOperation → Option DecimalForm → Column
+    → DataKind → Cell → Result Column Error
+decimals_scalar_answer (Some operation) (Some plain) left t cell =
+    decimal_scalar_answer operation plain left t cell
+decimals_scalar_answer _ _ left t cell = Err NotYetImplemented

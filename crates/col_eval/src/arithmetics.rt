@@ -21,8 +21,9 @@ use std::alloc::Global;
 /// The sums, row by row; null where either slot is null. The answer has the type of `lhs`.
 ///
 /// Refused, in this order: `NotYetImplemented` exactly where `can_add` is false of the types;
-/// `Lengths` exactly where the arrays differ in length; `Overflow` exactly where some row has two
-/// valid slots whose sum does not fit.
+/// `Parameters` exactly where two decimals differ in precision or scale; `Lengths` exactly where
+/// the arrays differ in length; `Overflow` exactly where some row has two valid slots whose
+/// sum does not fit.
 pub fn add(alloc: Global, lhs: &AnyArray, rhs: &AnyArray) -> Result<AnyArray, Error>
     ensures answer { Answers any_column result
         (step_answer Add (any_column lhs.now) (any_column rhs.now)) }
@@ -33,8 +34,9 @@ pub fn add(alloc: Global, lhs: &AnyArray, rhs: &AnyArray) -> Result<AnyArray, Er
 /// The differences, row by row; null where either slot is null. The answer has the type of `lhs`.
 ///
 /// Refused, in this order: `NotYetImplemented` exactly where `can_sub` is false of the types;
-/// `Lengths` exactly where the arrays differ in length; `Overflow` exactly where some row has two
-/// valid slots whose difference does not fit.
+/// `Parameters` exactly where two decimals differ in precision or scale; `Lengths` exactly where
+/// the arrays differ in length; `Overflow` exactly where some row has two valid slots whose
+/// difference does not fit.
 pub fn sub(alloc: Global, lhs: &AnyArray, rhs: &AnyArray) -> Result<AnyArray, Error>
     ensures answer { Answers any_column result
         (step_answer Sub (any_column lhs.now) (any_column rhs.now)) }
@@ -45,8 +47,9 @@ pub fn sub(alloc: Global, lhs: &AnyArray, rhs: &AnyArray) -> Result<AnyArray, Er
 /// The products, row by row; null where either slot is null. The answer has the type of `lhs`.
 ///
 /// Refused, in this order: `NotYetImplemented` exactly where `can_mul` is false of the types;
-/// `Lengths` exactly where the arrays differ in length; `Overflow` exactly where some row has two
-/// valid slots whose product does not fit.
+/// `Parameters` exactly where two decimals differ in precision or scale; `Lengths` exactly where
+/// the arrays differ in length; `Overflow` exactly where some row has two valid slots whose product
+/// does not fit, as `col_decimal::mul` has it of decimals.
 pub fn mul(alloc: Global, lhs: &AnyArray, rhs: &AnyArray) -> Result<AnyArray, Error>
     ensures answer { Answers any_column result
         (step_answer Mul (any_column lhs.now) (any_column rhs.now)) }
@@ -58,9 +61,10 @@ pub fn mul(alloc: Global, lhs: &AnyArray, rhs: &AnyArray) -> Result<AnyArray, Er
 /// of `lhs`.
 ///
 /// Refused, in this order: `NotYetImplemented` exactly where `can_div` is false of the types;
-/// `Lengths` exactly where the arrays differ in length; the cause of the least row with two valid
-/// slots that has one: `DivideByZero` where the divisor is 0, `Overflow` where the quotient does
-/// not fit.
+/// `Parameters` exactly where two decimals differ in precision or scale; `Lengths` exactly where
+/// the arrays differ in length; the cause of the least row with two valid slots that has one:
+/// `DivideByZero` where the divisor is 0, `Overflow` where the quotient does not fit, as
+/// `col_decimal::div` has it of decimals.
 pub fn div(alloc: Global, lhs: &AnyArray, rhs: &AnyArray) -> Result<AnyArray, Error>
     ensures answer { Answers any_column result
         (step_answer Div (any_column lhs.now) (any_column rhs.now)) }
@@ -86,7 +90,8 @@ pub fn rem(alloc: Global, lhs: &AnyArray, rhs: &AnyArray) -> Result<AnyArray, Er
 /// `lhs`.
 ///
 /// Refused, in this order: `NotYetImplemented` exactly where `can_add` is false of the types;
-/// `Overflow` exactly where the sum of some valid slot and a valid scalar does not fit.
+/// `Parameters` exactly where two decimals differ in precision or scale; `Overflow` exactly where
+/// the sum of some valid slot and a valid scalar does not fit.
 pub fn add_scalar(alloc: Global, lhs: &AnyArray, rhs: &AnyScalar) -> Result<AnyArray, Error>
     ensures answer { Answers any_column result (scalar_step_answer Add (any_column lhs.now)
         (scalar_type rhs.now) (scalar_cell rhs.now)) }
@@ -98,7 +103,8 @@ pub fn add_scalar(alloc: Global, lhs: &AnyArray, rhs: &AnyScalar) -> Result<AnyA
 /// of `lhs`.
 ///
 /// Refused, in this order: `NotYetImplemented` exactly where `can_sub` is false of the types;
-/// `Overflow` exactly where the difference of some valid slot and a valid scalar does not fit.
+/// `Parameters` exactly where two decimals differ in precision or scale; `Overflow` exactly where
+/// the difference of some valid slot and a valid scalar does not fit.
 pub fn sub_scalar(alloc: Global, lhs: &AnyArray, rhs: &AnyScalar) -> Result<AnyArray, Error>
     ensures answer { Answers any_column result (scalar_step_answer Sub (any_column lhs.now)
         (scalar_type rhs.now) (scalar_cell rhs.now)) }
@@ -110,7 +116,9 @@ pub fn sub_scalar(alloc: Global, lhs: &AnyArray, rhs: &AnyScalar) -> Result<AnyA
 /// `lhs`.
 ///
 /// Refused, in this order: `NotYetImplemented` exactly where `can_mul` is false of the types;
-/// `Overflow` exactly where the product of some valid slot and a valid scalar does not fit.
+/// `Parameters` exactly where two decimals differ in precision or scale; `Overflow` exactly where
+/// the product of some valid slot and a valid scalar does not fit, as `col_decimal::mul_scalar` has
+/// it of decimals.
 pub fn mul_scalar(alloc: Global, lhs: &AnyArray, rhs: &AnyScalar) -> Result<AnyArray, Error>
     ensures answer { Answers any_column result (scalar_step_answer Mul (any_column lhs.now)
         (scalar_type rhs.now) (scalar_cell rhs.now)) }
@@ -121,9 +129,10 @@ pub fn mul_scalar(alloc: Global, lhs: &AnyArray, rhs: &AnyScalar) -> Result<AnyA
 /// The quotients, toward zero, of each slot and the scalar; null where either is null. The answer
 /// has the type of `lhs`.
 ///
-/// Refused, in this order: `NotYetImplemented` exactly where `can_div` is false of the types; where
-/// some slot is valid, `DivideByZero` exactly where the scalar is 0; `Overflow` exactly where the
-/// quotient of some valid slot and a valid scalar does not fit.
+/// Refused, in this order: `NotYetImplemented` exactly where `can_div` is false of the types;
+/// `Parameters` exactly where two decimals differ in precision or scale; where some slot is valid,
+/// `DivideByZero` exactly where the scalar is 0; `Overflow` exactly where the quotient of some
+/// valid slot and a valid scalar does not fit, as `col_decimal::div_scalar` has it of decimals.
 pub fn div_scalar(alloc: Global, lhs: &AnyArray, rhs: &AnyScalar) -> Result<AnyArray, Error>
     ensures answer { Answers any_column result (scalar_step_answer Div (any_column lhs.now)
         (scalar_type rhs.now) (scalar_cell rhs.now)) }
@@ -163,7 +172,7 @@ fn negative<T: NativeNegate>(
 }
 
 /// Whether `add` takes arrays of the two types: exactly where both are one of the eight types of
-/// whole numbers of 8 to 64 bits, the same one.
+/// whole numbers of 8 to 64 bits, the same one, or both are decimals, whatever their parameters.
 pub fn can_add(lhs: &DataType, rhs: &DataType) -> bool
     ensures range { IsTrue result ↔ IsSome (entry_of Add (kind_of lhs.now) (kind_of rhs.now)) }
 {
@@ -171,7 +180,7 @@ pub fn can_add(lhs: &DataType, rhs: &DataType) -> bool
 }
 
 /// Whether `sub` takes arrays of the two types: exactly where both are one of the eight types of
-/// whole numbers of 8 to 64 bits, the same one.
+/// whole numbers of 8 to 64 bits, the same one, or both are decimals, whatever their parameters.
 pub fn can_sub(lhs: &DataType, rhs: &DataType) -> bool
     ensures range { IsTrue result ↔ IsSome (entry_of Sub (kind_of lhs.now) (kind_of rhs.now)) }
 {
@@ -179,7 +188,7 @@ pub fn can_sub(lhs: &DataType, rhs: &DataType) -> bool
 }
 
 /// Whether `mul` takes arrays of the two types: exactly where both are one of the eight types of
-/// whole numbers of 8 to 64 bits, the same one.
+/// whole numbers of 8 to 64 bits, the same one, or both are decimals, whatever their parameters.
 pub fn can_mul(lhs: &DataType, rhs: &DataType) -> bool
     ensures range { IsTrue result ↔ IsSome (entry_of Mul (kind_of lhs.now) (kind_of rhs.now)) }
 {
@@ -187,7 +196,7 @@ pub fn can_mul(lhs: &DataType, rhs: &DataType) -> bool
 }
 
 /// Whether `div` takes arrays of the two types: exactly where both are one of the eight types of
-/// whole numbers of 8 to 64 bits, the same one.
+/// whole numbers of 8 to 64 bits, the same one, or both are decimals, whatever their parameters.
 pub fn can_div(lhs: &DataType, rhs: &DataType) -> bool
     ensures range { IsTrue result ↔ IsSome (entry_of Div (kind_of lhs.now) (kind_of rhs.now)) }
 {

@@ -10,6 +10,7 @@ ghost use Rattle.col_eval.specs.declared.entries.Rule.TheVariants.{WholeNumbers}
 ghost use Rattle.col_eval.specs.Entries.{form_of, operation_of, rule_of};
 ghost use Rattle.col_eval.specs.Steps.{scalar_step_answer, step_answer};
 
+use crate::decimals::{decimals, decimals_scalar};
 use crate::entries::Rule;
 use crate::expr::Op;
 use col_array::{AnyArray, AnyScalar};
@@ -50,13 +51,14 @@ macro_rules! with_whole {
 /// A step on two columns, row by row.
 ///
 /// Refused, in this order: `NotYetImplemented` exactly where the step does not take the operands'
-/// types; `Lengths` exactly where the columns differ in length; the cause of the least row that
-/// the step refuses.
+/// types; `Parameters` exactly where two decimals differ in theirs; `Lengths` exactly where the
+/// columns differ in length; the cause of the least row that the step refuses.
 pub fn step(alloc: Global, op: Op, lhs: &AnyArray, rhs: &AnyArray) -> Result<AnyArray, Error>
     ensures { Answers any_column result (step_answer op (any_column lhs.now) (any_column rhs.now)) }
 {
     match Rule::of(op, lhs.data_type(), rhs.data_type()) {
         Some(Rule::WholeNumbers) => whole_numbers(alloc, op, lhs, rhs),
+        Some(Rule::Decimals) => decimals(alloc, op, lhs, rhs),
         None => Err(Error::NotYetImplemented),
     }
 }
@@ -64,7 +66,8 @@ pub fn step(alloc: Global, op: Op, lhs: &AnyArray, rhs: &AnyArray) -> Result<Any
 /// A step on a column and one value, row by row.
 ///
 /// Refused, in this order: `NotYetImplemented` exactly where the step does not take the operands'
-/// types; the cause of the least row that the step refuses. No row is refused beside a null.
+/// types, or no literal; `Parameters` exactly where two decimals differ in theirs; the cause of the
+/// least row that the step refuses. No row is refused beside a null.
 pub fn step_scalar(
     alloc: Global,
     op: Op,
@@ -76,6 +79,7 @@ pub fn step_scalar(
 {
     match Rule::of(op, lhs.data_type(), rhs.data_type()) {
         Some(Rule::WholeNumbers) => whole_numbers_scalar(alloc, op, lhs, rhs),
+        Some(Rule::Decimals) => decimals_scalar(alloc, op, lhs, rhs),
         None => Err(Error::NotYetImplemented),
     }
 }

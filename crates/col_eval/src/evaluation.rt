@@ -22,7 +22,7 @@ use std::alloc::Global;
 /// Refused, in this order: as `typed_of` refuses the tree; else where a step refuses a row, at the
 /// least such step in post-order and there at the least such row: `DivideByZero` where the divisor
 /// of a plain step is 0, else `Overflow` where its exact number does not fit, or for a remainder
-/// the quotient.
+/// the quotient, or as the kernel of `col_decimal` has it of decimals.
 pub fn evaluate(alloc: Global, table: &Table, tree: &Expr) -> Result<AnyArray, Error>
     ensures answer { Answers any_column result (outcome_of (tree_of tree.now) table.now) }
 {

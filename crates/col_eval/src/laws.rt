@@ -1,8 +1,18 @@
-//! What the definitions say together, each law as a function that does nothing.
-ghost use Rattle.col_eval.specs.Laws.{OutcomeDependsOnCellsAlone, OutcomeHoldsItsCells};
-ghost use Rattle.col_eval.specs.Laws.{OutcomeIsTheLeastRefusal, OutcomesOfPartsJoin};
-ghost use Rattle.col_eval.specs.Laws.{RefusalNamesItsStep, StepsOfTypedTreesHaveTypes};
-ghost use Rattle.col_eval.specs.Laws.{TableRefusalIsOfItsFirstStep, UnrefusedTablesHaveColumns};
+//! What the definitions say together, each law as a function that does nothing, or makes the one
+//! call that it speaks of.
+ghost use Rattle.col_types.specs.Answer.{FailsByMemory};
+ghost use Rattle.col_eval.specs.Laws.{IsUnrefused, OutcomeDependsOnCellsAlone};
+ghost use Rattle.col_eval.specs.Laws.{OutcomeHoldsItsCells, OutcomeIsTheLeastRefusal};
+ghost use Rattle.col_eval.specs.Laws.{OutcomesOfPartsJoin, RefusalNamesItsStep};
+ghost use Rattle.col_eval.specs.Laws.{StepsOfTypedTreesHaveTypes, TableRefusalIsOfItsFirstStep};
+ghost use Rattle.col_eval.specs.Tree.{tree_of};
+
+use crate::evaluation::evaluate;
+use crate::expr::Expr;
+use crate::table::Table;
+use col_array::AnyArray;
+use col_types::Error;
+use std::alloc::Global;
 
 /// A table's outcome is the refusal of the least step, and of those of one step that of the least
 /// row; without a refusal it has the cell of each row, in their order.
@@ -44,8 +54,14 @@ pub fn table_refusal_is_of_its_first_step()
     ensures { TableRefusalIsOfItsFirstStep }
 {}
 
-/// A tree that has a type, and refuses no row of a table, gives a column for it: so `evaluate`
-/// answers it, or want of memory.
-pub fn unrefused_tables_have_columns()
-    ensures { UnrefusedTablesHaveColumns }
-{}
+/// `evaluate` answers a tree that has a type and refuses no row of the table, but for want of
+/// memory.
+pub fn unrefused_tables_have_columns(
+    alloc: Global,
+    table: &Table,
+    tree: &Expr,
+) -> Result<AnyArray, Error>
+    ensures { IsUnrefused (tree_of tree.now) table.now → FailsByMemory result }
+{
+    evaluate(alloc, table, tree)
+}

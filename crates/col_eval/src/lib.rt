@@ -3,6 +3,7 @@
 #![tactic(auto)]
 
 mod arithmetics;
+mod decimals;
 mod dispatch;
 mod entries;
 mod evaluation;

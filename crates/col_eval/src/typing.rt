@@ -21,7 +21,7 @@ pub const MAX_LEVELS: usize = 256;
 /// Refused, in this order: `Depth` where the tree has more than 256 levels; then, left operand
 /// first, operands before their step: `Position` where the table has no such column;
 /// `NotYetImplemented` where a literal is no right operand of a step, or a step does not take
-/// operands of these types.
+/// operands of these types or no literal; `Parameters` where two decimals differ in theirs.
 pub fn typed_of(alloc: Global, table: &Table, tree: &Expr) -> Result<DataType, Error>
     ensures answer { Answers kind_of result (typing_of (tree_of tree.now) (types_of table.now)) }
 {
@@ -83,7 +83,7 @@ fn step_type(
         (entry_type is_literal (entry_of op (kind_of lhs.now) (kind_of rhs.now))) }
 {
     match Rule::of(op, lhs, rhs) {
-        Some(rule) if !is_literal || rule.takes_literal() => rule.answer_type(alloc, lhs),
+        Some(rule) if !is_literal || rule.takes_literal(op) => rule.answer_type(alloc, lhs, rhs),
         _ => Err(Error::NotYetImplemented),
     }
 }
