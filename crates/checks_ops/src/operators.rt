@@ -1,4 +1,4 @@
-//! Checks of the operators, each at arrays of 8 bits and by its trait. Numbers are worked out by hand.
+//! Checks of the operators, each at arrays of 8 bits and by its trait. Numbers are by hand.
 use col_buf::Bitmap;
 use col_flat::PrimitiveArray;
 use col_ops::{
@@ -225,5 +225,23 @@ fn overflowing_operators_with_a_number_answer(rt: HostRuntime) -> Result<(), Err
         is_flagged(alloc, product, [Some(16), None, Some(100)]),
         "product"
     );
+    Ok(())
+}
+
+// The slot of a clamped sum of two rows.
+fn clamped_sum(alloc: Global, lhs: u64, rhs: u64) -> Result<Option<u64>, Error> {
+    let lhs = PrimitiveArray::from_options(alloc, DataType::UInt64, &[Some(lhs)])?;
+    let rhs = PrimitiveArray::from_options(alloc, DataType::UInt64, &[Some(rhs)])?;
+    let sums = lhs.saturating_add(alloc, &rhs)?;
+    if sums.len() != 1 {
+        return Ok(None);
+    }
+    Ok(sums.get(0))
+}
+
+#[test]
+fn operators_take_unsigned_numbers(rt: HostRuntime) -> Result<(), Error> {
+    let sum = clamped_sum(rt.alloc(), u64::MAX, 1)?;
+    assert_eq!(rt; sum, Some(u64::MAX), "past 64 bits");
     Ok(())
 }

@@ -8,10 +8,10 @@ use col_buf::Bitmap;
 use col_types::Error;
 use std::alloc::Global;
 
-/// Adds, row by row. A row whose sum does not fit refuses.
+/// Adds, row by row. A row where either side is null is null; the type is that of the left array.
 ///
-/// Arrays of whole numbers are refused, in this order: `Lengths` where two of them differ in
-/// length; `Overflow` where the sum at some row does not fit.
+/// Arrays of whole numbers are refused, in this order: `Lengths` exactly where two of them differ
+/// in length; `Overflow` exactly where some row has two values whose sum does not fit.
 /// Arrays of decimals answer and are refused as by `col_decimal::add`.
 pub trait ArrayAdd<Rhs>: Sized {
     /// The column that an array stands for.
@@ -25,9 +25,11 @@ pub trait ArrayAdd<Rhs>: Sized {
         ensures answer { Answers column result (sum_answer (column self.now) rhs.now) };
 }
 
-/// Adds, row by row. A sum is taken modulo 2^w, w being the width of the type.
+/// Adds, row by row; a sum is taken modulo 2^w, w being the width of the type. A row where either
+/// side is null is null; the type is that of the left array. An array and a number have no such
+/// operator.
 ///
-/// Arrays of whole numbers are refused where two of them differ in length, with `Lengths`.
+/// Refused: `Lengths` exactly where the arrays differ in length.
 pub trait ArrayWrappingAdd<Rhs>: Sized {
     /// The column that an array stands for.
     ghost column: { Self → Column };
@@ -40,9 +42,10 @@ pub trait ArrayWrappingAdd<Rhs>: Sized {
         ensures answer { Answers column result (wrapped_sum (column self.now) rhs.now) };
 }
 
-/// Adds, row by row. A row whose sum does not fit is null.
+/// Adds, row by row. A row where either side is null, or whose sum does not fit, is null; the type
+/// is that of the left array.
 ///
-/// Arrays of whole numbers are refused where two of them differ in length, with `Lengths`.
+/// Arrays of whole numbers are refused with `Lengths` exactly where two of them differ in length.
 /// Arrays of decimals answer and are refused as by `col_decimal::checked_add`.
 pub trait ArrayCheckedAdd<Rhs>: Sized {
     /// The column that an array stands for.
@@ -56,9 +59,10 @@ pub trait ArrayCheckedAdd<Rhs>: Sized {
         ensures answer { Answers column result (checked_sum (column self.now) rhs.now) };
 }
 
-/// Adds, row by row. A sum past an end of the type is that end.
+/// Adds, row by row; a sum past an end of the type is that end. A row where either side is null is
+/// null; the type is that of the left array.
 ///
-/// Arrays of whole numbers are refused where two of them differ in length, with `Lengths`.
+/// Arrays of whole numbers are refused with `Lengths` exactly where two of them differ in length.
 /// Arrays of decimals answer and are refused as by `col_decimal::saturating_add`.
 pub trait ArraySaturatingAdd<Rhs>: Sized {
     /// The column that an array stands for.
@@ -72,10 +76,11 @@ pub trait ArraySaturatingAdd<Rhs>: Sized {
         ensures answer { Answers column result (saturated_sum (column self.now) rhs.now) };
 }
 
-/// Adds, row by row. A sum is taken modulo 2^w, and a flag for each row tells whether it did not
-/// fit.
+/// Adds, row by row; a sum is taken modulo 2^w, w being the width of the type, and a flag for each
+/// row tells whether it did not fit. A row where either side is null is null, with the flag false;
+/// the type is that of the left array.
 ///
-/// Arrays of whole numbers are refused where two of them differ in length, with `Lengths`.
+/// Arrays of whole numbers are refused with `Lengths` exactly where two of them differ in length.
 pub trait ArrayOverflowingAdd<Rhs>: Sized {
     /// The column that an array stands for.
     ghost column: { Self → Column };
@@ -89,10 +94,11 @@ pub trait ArrayOverflowingAdd<Rhs>: Sized {
             (flagged_sum (column self.now) rhs.now) };
 }
 
-/// Subtracts, row by row. A row whose difference does not fit refuses.
+/// Subtracts, row by row. A row where either side is null is null; the type is that of the left
+/// array.
 ///
-/// Arrays of whole numbers are refused, in this order: `Lengths` where two of them differ in
-/// length; `Overflow` where the difference at some row does not fit.
+/// Arrays of whole numbers are refused, in this order: `Lengths` exactly where two of them differ
+/// in length; `Overflow` exactly where some row has two values whose difference does not fit.
 /// Arrays of decimals answer and are refused as by `col_decimal::sub`.
 pub trait ArraySub<Rhs>: Sized {
     /// The column that an array stands for.
@@ -106,9 +112,11 @@ pub trait ArraySub<Rhs>: Sized {
         ensures answer { Answers column result (difference_answer (column self.now) rhs.now) };
 }
 
-/// Subtracts, row by row. A difference is taken modulo 2^w, w being the width of the type.
+/// Subtracts, row by row; a difference is taken modulo 2^w, w being the width of the type. A row
+/// where either side is null is null; the type is that of the left array. An array and a number
+/// have no such operator.
 ///
-/// Arrays of whole numbers are refused where two of them differ in length, with `Lengths`.
+/// Refused: `Lengths` exactly where the arrays differ in length.
 pub trait ArrayWrappingSub<Rhs>: Sized {
     /// The column that an array stands for.
     ghost column: { Self → Column };
@@ -121,9 +129,10 @@ pub trait ArrayWrappingSub<Rhs>: Sized {
         ensures answer { Answers column result (wrapped_difference (column self.now) rhs.now) };
 }
 
-/// Subtracts, row by row. A row whose difference does not fit is null.
+/// Subtracts, row by row. A row where either side is null, or whose difference does not fit, is
+/// null; the type is that of the left array.
 ///
-/// Arrays of whole numbers are refused where two of them differ in length, with `Lengths`.
+/// Arrays of whole numbers are refused with `Lengths` exactly where two of them differ in length.
 /// Arrays of decimals answer and are refused as by `col_decimal::checked_sub`.
 pub trait ArrayCheckedSub<Rhs>: Sized {
     /// The column that an array stands for.
@@ -137,9 +146,10 @@ pub trait ArrayCheckedSub<Rhs>: Sized {
         ensures answer { Answers column result (checked_difference (column self.now) rhs.now) };
 }
 
-/// Subtracts, row by row. A difference past an end of the type is that end.
+/// Subtracts, row by row; a difference past an end of the type is that end. A row where either side
+/// is null is null; the type is that of the left array.
 ///
-/// Arrays of whole numbers are refused where two of them differ in length, with `Lengths`.
+/// Arrays of whole numbers are refused with `Lengths` exactly where two of them differ in length.
 /// Arrays of decimals answer and are refused as by `col_decimal::saturating_sub`.
 pub trait ArraySaturatingSub<Rhs>: Sized {
     /// The column that an array stands for.
@@ -153,10 +163,11 @@ pub trait ArraySaturatingSub<Rhs>: Sized {
         ensures answer { Answers column result (saturated_difference (column self.now) rhs.now) };
 }
 
-/// Subtracts, row by row. A difference is taken modulo 2^w, and a flag for each row tells whether
-/// it did not fit.
+/// Subtracts, row by row; a difference is taken modulo 2^w, w being the width of the type, and a
+/// flag for each row tells whether it did not fit. A row where either side is null is null, with
+/// the flag false; the type is that of the left array.
 ///
-/// Arrays of whole numbers are refused where two of them differ in length, with `Lengths`.
+/// Arrays of whole numbers are refused with `Lengths` exactly where two of them differ in length.
 pub trait ArrayOverflowingSub<Rhs>: Sized {
     /// The column that an array stands for.
     ghost column: { Self → Column };
@@ -170,10 +181,11 @@ pub trait ArrayOverflowingSub<Rhs>: Sized {
             (flagged_difference (column self.now) rhs.now) };
 }
 
-/// Multiplies, row by row. A row whose product does not fit refuses.
+/// Multiplies, row by row. A row where either side is null is null; the type is that of the left
+/// array.
 ///
-/// Arrays of whole numbers are refused, in this order: `Lengths` where two of them differ in
-/// length; `Overflow` where the product at some row does not fit.
+/// Arrays of whole numbers are refused, in this order: `Lengths` exactly where two of them differ
+/// in length; `Overflow` exactly where some row has two values whose product does not fit.
 /// Arrays of decimals answer and are refused as by `col_decimal::mul`.
 pub trait ArrayMul<Rhs>: Sized {
     /// The column that an array stands for.
@@ -187,9 +199,11 @@ pub trait ArrayMul<Rhs>: Sized {
         ensures answer { Answers column result (product_answer (column self.now) rhs.now) };
 }
 
-/// Multiplies, row by row. A product is taken modulo 2^w, w being the width of the type.
+/// Multiplies, row by row; a product is taken modulo 2^w, w being the width of the type. A row
+/// where either side is null is null; the type is that of the left array. An array and a number
+/// have no such operator.
 ///
-/// Arrays of whole numbers are refused where two of them differ in length, with `Lengths`.
+/// Refused: `Lengths` exactly where the arrays differ in length.
 pub trait ArrayWrappingMul<Rhs>: Sized {
     /// The column that an array stands for.
     ghost column: { Self → Column };
@@ -202,9 +216,10 @@ pub trait ArrayWrappingMul<Rhs>: Sized {
         ensures answer { Answers column result (wrapped_product (column self.now) rhs.now) };
 }
 
-/// Multiplies, row by row. A row whose product does not fit is null.
+/// Multiplies, row by row. A row where either side is null, or whose product does not fit, is null;
+/// the type is that of the left array.
 ///
-/// Arrays of whole numbers are refused where two of them differ in length, with `Lengths`.
+/// Arrays of whole numbers are refused with `Lengths` exactly where two of them differ in length.
 /// Arrays of decimals answer and are refused as by `col_decimal::checked_mul`.
 pub trait ArrayCheckedMul<Rhs>: Sized {
     /// The column that an array stands for.
@@ -218,9 +233,10 @@ pub trait ArrayCheckedMul<Rhs>: Sized {
         ensures answer { Answers column result (checked_product (column self.now) rhs.now) };
 }
 
-/// Multiplies, row by row. A product past an end of the type is that end.
+/// Multiplies, row by row; a product past an end of the type is that end. A row where either side
+/// is null is null; the type is that of the left array.
 ///
-/// Arrays of whole numbers are refused where two of them differ in length, with `Lengths`.
+/// Arrays of whole numbers are refused with `Lengths` exactly where two of them differ in length.
 /// Arrays of decimals answer and are refused as by `col_decimal::saturating_mul`.
 pub trait ArraySaturatingMul<Rhs>: Sized {
     /// The column that an array stands for.
@@ -234,10 +250,11 @@ pub trait ArraySaturatingMul<Rhs>: Sized {
         ensures answer { Answers column result (saturated_product (column self.now) rhs.now) };
 }
 
-/// Multiplies, row by row. A product is taken modulo 2^w, and a flag for each row tells whether
-/// it did not fit.
+/// Multiplies, row by row; a product is taken modulo 2^w, w being the width of the type, and a flag
+/// for each row tells whether it did not fit. A row where either side is null is null, with the
+/// flag false; the type is that of the left array.
 ///
-/// Arrays of whole numbers are refused where two of them differ in length, with `Lengths`.
+/// Arrays of whole numbers are refused with `Lengths` exactly where two of them differ in length.
 pub trait ArrayOverflowingMul<Rhs>: Sized {
     /// The column that an array stands for.
     ghost column: { Self → Column };
@@ -251,12 +268,12 @@ pub trait ArrayOverflowingMul<Rhs>: Sized {
             (flagged_product (column self.now) rhs.now) };
 }
 
-/// Divides, row by row; a quotient goes toward zero. A row that divides by 0, or whose quotient
-/// does not fit, refuses.
+/// Divides, row by row; a quotient goes toward zero. A row where either side is null is null; the
+/// type is that of the left array.
 ///
-/// Arrays of whole numbers are refused, in this order: `Lengths` where two of them differ in
-/// length; then as the least row is that has a divisor of 0, with `DivideByZero`, or a quotient
-/// that does not fit, with `Overflow`.
+/// Arrays of whole numbers are refused, in this order: `Lengths` exactly where two of them differ
+/// in length; the cause of the least row with two values that has one: `DivideByZero` where the
+/// divisor is 0, `Overflow` where the quotient does not fit.
 /// Arrays of decimals answer and are refused as by `col_decimal::div`.
 pub trait ArrayDiv<Rhs>: Sized {
     /// The column that an array stands for.
@@ -270,10 +287,10 @@ pub trait ArrayDiv<Rhs>: Sized {
         ensures answer { Answers column result (quotient_answer (column self.now) rhs.now) };
 }
 
-/// Divides, row by row; a quotient goes toward zero. A row that divides by 0, or whose quotient
-/// does not fit, is null.
+/// Divides, row by row; a quotient goes toward zero. A row is null where either side is null, the
+/// divisor is 0, or the quotient does not fit; the type is that of the left array.
 ///
-/// Arrays of whole numbers are refused where two of them differ in length, with `Lengths`.
+/// Arrays of whole numbers are refused with `Lengths` exactly where two of them differ in length.
 /// Arrays of decimals answer and are refused as by `col_decimal::checked_div`.
 pub trait ArrayCheckedDiv<Rhs>: Sized {
     /// The column that an array stands for.
@@ -287,12 +304,12 @@ pub trait ArrayCheckedDiv<Rhs>: Sized {
         ensures answer { Answers column result (checked_quotient (column self.now) rhs.now) };
 }
 
-/// Takes remainders, row by row; a remainder has the sign of its dividend. A row that divides by
-/// 0, or whose quotient does not fit, refuses.
+/// Takes remainders, row by row; a remainder has the sign of its dividend. A row where either side
+/// is null is null; the type is that of the left array.
 ///
-/// Arrays of whole numbers are refused, in this order: `Lengths` where two of them differ in
-/// length; then as the least row is that has a divisor of 0, with `DivideByZero`, or a quotient
-/// that does not fit, with `Overflow`.
+/// Arrays of whole numbers are refused, in this order: `Lengths` exactly where two of them differ
+/// in length; the cause of the least row with two values that has one: `DivideByZero` where the
+/// divisor is 0, `Overflow` where the quotient does not fit.
 pub trait ArrayRem<Rhs>: Sized {
     /// The column that an array stands for.
     ghost column: { Self → Column };
@@ -305,10 +322,11 @@ pub trait ArrayRem<Rhs>: Sized {
         ensures answer { Answers column result (remainder_answer (column self.now) rhs.now) };
 }
 
-/// Takes remainders, row by row; a remainder has the sign of its dividend. A row that divides by
-/// 0, or whose quotient does not fit, is null.
+/// Takes remainders, row by row; a remainder has the sign of its dividend. A row is null where
+/// either side is null, the divisor is 0, or the quotient does not fit; the type is that of the
+/// left array.
 ///
-/// Arrays of whole numbers are refused where two of them differ in length, with `Lengths`.
+/// Arrays of whole numbers are refused with `Lengths` exactly where two of them differ in length.
 pub trait ArrayCheckedRem<Rhs>: Sized {
     /// The column that an array stands for.
     ghost column: { Self → Column };
