@@ -1,4 +1,5 @@
-//! Checks of the operators, each at arrays of 8 bits and by its trait. Numbers are by hand.
+//! Checks of the operators, each at arrays of 8 bits and by its trait. Numbers are worked out by
+//! hand.
 use col_buf::Bitmap;
 use col_flat::PrimitiveArray;
 use col_ops::{
