@@ -1,0 +1,16 @@
+//! The civil calendar: dates, times, offsets, and the parts of columns of them.
+#![tactic(auto)]
+
+pub mod laws;
+mod offset;
+mod temporal_conversions;
+mod units;
+
+pub use offset::{FixedOffset, OffsetDateTime, parse_offset};
+pub use temporal_conversions::{
+    EPOCH_DAYS_FROM_CE, MICROSECONDS, MILLISECONDS, MILLISECONDS_IN_DAY, NANOSECONDS,
+    SECONDS_IN_DAY, duration_ms_to_duration, duration_ns_to_duration, duration_s_to_duration,
+    duration_us_to_duration, time32ms_to_time, time32s_to_time, time64ns_to_time,
+    time64ns_to_time_opt, time64us_to_time, time64us_to_time_opt,
+};
+pub use units::timeunit_scale;
