@@ -1,2 +1,3 @@
 pub mod CivilLemmas
+pub mod InstantLemmas
 pub mod KnownLemmas

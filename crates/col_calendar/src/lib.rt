@@ -9,8 +9,13 @@ mod units;
 pub use offset::{FixedOffset, OffsetDateTime, parse_offset};
 pub use temporal_conversions::{
     EPOCH_DAYS_FROM_CE, MICROSECONDS, MILLISECONDS, MILLISECONDS_IN_DAY, NANOSECONDS,
-    SECONDS_IN_DAY, duration_ms_to_duration, duration_ns_to_duration, duration_s_to_duration,
-    duration_us_to_duration, time32ms_to_time, time32s_to_time, time64ns_to_time,
-    time64ns_to_time_opt, time64us_to_time, time64us_to_time_opt,
+    SECONDS_IN_DAY, date32_to_date, date32_to_date_opt, date32_to_datetime, date32_to_datetime_opt,
+    date64_to_date, date64_to_datetime, duration_ms_to_duration, duration_ns_to_duration,
+    duration_s_to_duration, duration_us_to_duration, time32ms_to_time, time32s_to_time,
+    time64ns_to_time, time64ns_to_time_opt, time64us_to_time, time64us_to_time_opt,
+    timestamp_ms_to_datetime, timestamp_ms_to_datetime_opt, timestamp_ns_to_datetime,
+    timestamp_ns_to_datetime_opt, timestamp_s_to_datetime, timestamp_s_to_datetime_opt,
+    timestamp_to_datetime, timestamp_to_naive_datetime, timestamp_us_to_datetime,
+    timestamp_us_to_datetime_opt,
 };
 pub use units::timeunit_scale;

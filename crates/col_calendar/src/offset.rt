@@ -68,6 +68,19 @@ impl Model for OffsetDateTime {
 }
 
 impl OffsetDateTime {
+    // An instant by its date-times in UTC and by the clock of the offset.
+    pub(crate) fn new(utc: DateTime, local: DateTime, offset: &FixedOffset) -> OffsetDateTime
+        ensures utc { result.utc ≡ utc }
+        ensures local { result.local ≡ local }
+        ensures offset { result.offset ≡ offset.now }
+    {
+        OffsetDateTime {
+            utc,
+            local,
+            offset: *offset,
+        }
+    }
+
     /// The date-time in UTC.
     pub fn naive_utc(&self) -> DateTime
         ensures { result ≡ self.now.utc }
