@@ -1,21 +1,31 @@
 -- The year, month and day of a date's day number, and its week.
 use Rattle.std.proofs.Common.{◌≡◌, ℕ, zero, suc, ◌+◌, ◌-◌, ◌<◌, ◌≤◌, ◌⊎◌, inl, inr, refl, sym, ap}
 use Rattle.std.proofs.Common.{◌∙◌, arith, ℤ, pos, neg_ℤ, ◌+ℤ◌, ◌-ℤ◌, ◌<ℤ◌, ◌≤ℤ◌, unsigned_abs}
-use Rattle.std.proofs.Common.{Bool, true, false, int_le}
+use Rattle.std.proofs.Common.{IsTrue, rules}
 use Rattle.std.proofs.lemmas.Bool.{cases_order}
-use Rattle.jiff_core.specs.Calendar.{IsCivilDate, IsYear, days_from_civil, weekday_number}
+use Rattle.jiff_core.specs.Calendar.{IsBetween, IsCivilDate, IsYear, days_from_civil}
+use Rattle.jiff_core.specs.Calendar.{weekday_number}
 use Rattle.jiff_core.specs.Date.{epoch_day, ordinal}
 use Rattle.jiff_core.specs.declared.civil.date.Date.{Date}
 use Rattle.jiff_core.proofs.SignedLemmas.{signed_arith}
 use Rattle.jiff_core.proofs.CalendarLemmas.{day_count-day, day_count-day_of_year}
 use Rattle.jiff_core.proofs.CalendarLemmas.{day_count-later_year, day_count-lt_month}
 use Rattle.jiff_core.proofs.CalendarLemmas.{day_of_year_bound, days_from_civil-day_count}
-use Rattle.jiff_core.proofs.CalendarLemmas.{days_in_month_bounds}
+use Rattle.jiff_core.proofs.CalendarLemmas.{days_in_month_bounds, weekday_number-parts}
 use Rattle.jiff_core.proofs.DateLemmas.{civil, epoch_day-ordinal}
 use borrow.Author.Differences.{up, down}
 use Rattle.col_calendar.specs.Civil.{begun, day_of_month, iso_week_of, month_of, place_in_year}
-use Rattle.col_calendar.specs.Civil.{thursday_of, year_of}
+use Rattle.col_calendar.specs.Civil.{is_civil_day, thursday_of, year_of}
 use Rattle.col_calendar.specs.Laws.{DayNumberTellsItsDate}
+
+-- a day that has a date lies between the first and the last
+pub civil_day-between : (d : ℤ) → IsTrue (is_civil_day d)
+    → IsBetween (neg_ℤ (pos 4_371_587)) (pos 2_932_896) d
+civil_day-between d h = search rules
+
+pub between-civil_day : (d : ℤ) → IsBetween (neg_ℤ (pos 4_371_587)) (pos 2_932_896) d
+    → IsTrue (is_civil_day d)
+between-civil_day d h = search rules
 
 -- a span that has begun counts, and one that has not does not
 begun-more : (first : ℕ → ℤ) (n : ℤ) (k : ℕ) → first k ≤ℤ n
@@ -203,3 +213,25 @@ day_number-date d = record {
   is_day = day_of_month-epoch_day d;
   is_place = place_in_year-epoch_day d;
 }
+
+-- the same for a day that is known to be the date's
+pub date_year : (d : Date) (n : ℤ) → epoch_day d ≡ n → d.year ≡ year_of n
+date_year d n e = sym (year_of-epoch_day d) ∙ ap year_of e
+
+pub date_month : (d : Date) (n : ℤ) → epoch_day d ≡ n → d.month ≡ month_of n
+date_month d n e = sym (month_of-epoch_day d) ∙ ap month_of e
+
+pub date_day : (d : Date) (n : ℤ) → epoch_day d ≡ n → d.day ≡ day_of_month n
+date_day d n e = sym (day_of_month-epoch_day d) ∙ ap day_of_month e
+
+pub date_place : (d : Date) (n : ℤ) → epoch_day d ≡ n → ordinal d ≡ place_in_year n
+date_place d n e = sym (place_in_year-epoch_day d) ∙ ap place_in_year e
+
+-- the Thursday of a week with a day that has a date has one too: the first day is a Monday, and
+-- the last a Friday
+pub thursday-civil : (n : ℤ) → IsTrue (is_civil_day n) → IsTrue (is_civil_day (thursday_of n))
+thursday-civil n h = between-civil_day (thursday_of n) between where
+  between : IsBetween (neg_ℤ (pos 4_371_587)) (pos 2_932_896) (thursday_of n)
+  between =
+      let is = civil_day-between n h in
+      omega (arith, signed_arith, weekday_number-parts n)

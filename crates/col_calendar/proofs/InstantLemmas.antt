@@ -11,6 +11,7 @@ use Rattle.jiff_core.proofs.SignedLemmas.{signed_arith}
 use Rattle.col_calendar.specs.Civil.{IsDateTimeOf, day_of, instant_at, is_civil_day, local_instant}
 use Rattle.col_calendar.specs.Civil.{time_of}
 use Rattle.col_calendar.specs.Conversion.{is_civil}
+use Rattle.col_calendar.proofs.CivilLemmas.{civil_day-between}
 
 -- the day is the whole days of the seconds
 pub instant-day : (s : ℤ) (n : ℕ) → n < 1_000_000_000
@@ -27,11 +28,6 @@ instant-time s n h = omega (arith, signed_arith)
 pub instant-local : (s o : ℤ) (n : ℕ)
     → local_instant o (instant_at s n) ≡ instant_at (s +ℤ o) n
 instant-local s o n = omega (arith, signed_arith)
-
--- a day that has a date lies between the first and the last
-pub civil_day-between : (d : ℤ) → IsTrue (is_civil_day d)
-    → IsBetween (neg_ℤ (pos 4_371_587)) (pos 2_932_896) d
-civil_day-between d h = search rules
 
 -- the seconds of an instant that has a date-time
 pub civil-seconds : (s : ℤ) (n : ℕ) → n < 1_000_000_000 → IsTrue (is_civil (instant_at s n))

@@ -9,3 +9,4 @@ pub mod Civil
 pub mod Conversion
 pub mod Laws
 pub mod Offset
+pub mod Part

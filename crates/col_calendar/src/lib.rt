@@ -3,6 +3,7 @@
 
 pub mod laws;
 mod offset;
+mod parts;
 mod temporal_conversions;
 mod units;
 
