@@ -9,7 +9,7 @@ use Rattle.jiff_core.specs.Time.{time_nanos, time_seconds}
 use Rattle.jiff_core.specs.declared.civil.datetime.DateTime.{DateTime}
 use Rattle.jiff_core.proofs.SignedLemmas.{signed_arith}
 use Rattle.col_calendar.specs.Civil.{IsDateTimeOf, day_of, instant_at, is_civil_day, local_instant}
-use Rattle.col_calendar.specs.Civil.{time_of}
+use Rattle.col_calendar.specs.Civil.{midnight_of, time_of}
 use Rattle.col_calendar.specs.Conversion.{is_civil}
 use Rattle.col_calendar.proofs.CivilLemmas.{civil_day-between}
 
@@ -71,3 +71,7 @@ local-none s o l n e h = rw (instant-local s o n, ← e) (not_both _ _ h)
 pub local-parts : (s o l : ℤ) (n : ℕ) (dt : DateTime) → l ≡ s +ℤ o
     → IsDateTimeOf (instant_at l n) dt → IsDateTimeOf (local_instant o (instant_at s n)) dt
 local-parts s o l n dt e h = rw (instant-local s o n, ← e) h
+
+-- a day's midnight, in seconds
+pub instant-midnight : (s n : ℤ) → s ≡ n *ℤ pos 86_400 → instant_at s 0 ≡ midnight_of n
+instant-midnight s n e = omega (arith, signed_arith)

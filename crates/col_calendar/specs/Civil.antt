@@ -32,6 +32,10 @@ nanos_per_day = 86_400_000_000_000
 abbrev pub instant_of : TimeUnit → ℤ → ℤ
 instant_of u n = n *ℤ pos (nanos_per_unit u)
 
+-- the instant of a day's midnight
+abbrev pub midnight_of : ℤ → ℤ
+midnight_of day = day *ℤ pos nanos_per_day
+
 -- the instant of whole seconds, and of nanoseconds past them
 abbrev pub instant_at : ℤ → ℕ → ℤ
 instant_at second nanosecond = second *ℤ pos 1_000_000_000 +ℤ pos nanosecond

@@ -3,6 +3,7 @@ use Rattle.std.specs.Prelude.{◌≡◌, ℕ, ◌+◌, ◌/◌, ◌%◌, Bool, t
 use Rattle.std.specs.Prelude.{if◌then◌else◌, ◌*ℤ◌, Option, Some, None, Result, Ok, Err}
 use Rattle.col_model.specs.Cell.{Cell, null, whole, Cause, out_of_range}
 use Rattle.col_model.specs.WholeStep.{each_cell}
+use Rattle.col_types.specs.declared.datatypes.TimeUnit.{TimeUnit}
 use Rattle.col_types.specs.declared.datatypes.TimeUnit.TheVariants as unit
 use Rattle.col_types.specs.declared.error.Error.{Error}
 use Rattle.col_types.specs.declared.error.Error.TheVariants.{InvalidArgumentError}
@@ -13,7 +14,7 @@ use Rattle.col_types.specs.DataKind.{DataKind}
 use Rattle.col_types.specs.DataKind as kind
 use Rattle.col_types.specs.DataType.{is_time32_unit}
 use Rattle.col_calendar.specs.Civil.{day_of, day_of_month, instant_of, is_within_day, iso_week_of}
-use Rattle.col_calendar.specs.Civil.{local_instant, month_of, nanos_per_day, time_of}
+use Rattle.col_calendar.specs.Civil.{local_instant, midnight_of, month_of, time_of}
 use Rattle.col_calendar.specs.Civil.{weekday_of_day, year_of}
 use Rattle.col_calendar.specs.Conversion.{is_civil}
 use Rattle.col_calendar.specs.Offset.{offset_of}
@@ -85,13 +86,24 @@ instant_step p offset m =
     if is_civil m && is_civil (local_instant offset m)
     then Ok (part_cell p (local_instant offset m)) else Err out_of_range
 
+-- the unit of times of day: none of another type
+abbrev pub time_unit_of : DataKind → Option TimeUnit
+time_unit_of (kind.time32 u) = Some u
+time_unit_of (kind.time64 u) = Some u
+time_unit_of _ = None
+
+-- the unit of instants of 64 bits: milliseconds of a date, else the type's own
+abbrev pub instant_unit_of : DataKind → TimeUnit
+instant_unit_of (kind.timestamp u place) = u
+instant_unit_of _ = unit.Millisecond
+
 -- the part of a number of the type
 abbrev pub number_step : Part → DataKind → ℤ → ℤ → Result Cell Cause
 number_step p (kind.time32 u) offset n = clock_step p (instant_of u n)
 number_step p (kind.time64 u) offset n = clock_step p (instant_of u n)
 number_step p (kind.timestamp u place) offset n = instant_step p offset (instant_of u n)
 number_step p kind.date64 offset n = instant_step p offset (instant_of unit.Millisecond n)
-number_step p _ offset n = instant_step p offset (n *ℤ pos nanos_per_day)
+number_step p _ offset n = instant_step p offset (midnight_of n)
 
 -- a step on the number of a cell: a null gives null
 abbrev pub on_number : (ℤ → Result Cell Cause) → Cell → Result Cell Cause

@@ -1,13 +1,19 @@
 //! The civil calendar: dates, times, offsets, and the parts of columns of them.
 #![tactic(auto)]
 
+mod kernels;
 pub mod laws;
 mod offset;
 mod parts;
+mod temporal;
 mod temporal_conversions;
 mod units;
 
 pub use offset::{FixedOffset, OffsetDateTime, parse_offset};
+pub use temporal::{
+    can_day, can_hour, can_iso_week, can_minute, can_month, can_nanosecond, can_second,
+    can_weekday, can_year, day, hour, iso_week, minute, month, nanosecond, second, weekday, year,
+};
 pub use temporal_conversions::{
     EPOCH_DAYS_FROM_CE, MICROSECONDS, MILLISECONDS, MILLISECONDS_IN_DAY, NANOSECONDS,
     SECONDS_IN_DAY, date32_to_date, date32_to_date_opt, date32_to_datetime, date32_to_datetime_opt,

@@ -29,6 +29,13 @@ impl Model for FixedOffset {
 }
 
 impl FixedOffset {
+    // The offset of UTC itself.
+    pub(crate) fn utc() -> FixedOffset
+        ensures { result ≡ pos 0 }
+    {
+        FixedOffset { seconds: 0 }
+    }
+
     /// The offset of so many seconds east of UTC; `None` where that is a day or more either way.
     pub fn east_opt(seconds: i32) -> Option<FixedOffset>
         ensures { result ≡ checked_offset seconds }

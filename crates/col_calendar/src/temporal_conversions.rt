@@ -1,5 +1,5 @@
 //! Dates, times and date-times of the numbers that columns store.
-ghost use Rattle.std.specs.Prelude.{◌≡◌, ◌<◌, ◌&&◌, pos, neg_ℤ, ◌+ℤ◌, ◌*ℤ◌};
+ghost use Rattle.std.specs.Prelude.{◌≡◌, ◌<◌, ◌&&◌, pos, neg_ℤ, ◌+ℤ◌};
 ghost use Rattle.jiff_core.specs.Calendar.{IsBetween};
 ghost use Rattle.jiff_core.specs.Date.{epoch_day};
 ghost use Rattle.jiff_core.specs.Time.{time_nanos};
@@ -7,7 +7,7 @@ ghost use Rattle.jiff.specs.Words.{signed_nanos};
 ghost use Rattle.col_types.specs.declared.datatypes.TimeUnit.TheVariants as unit;
 ghost use Rattle.col_calendar.specs.Civil.{IsDateTimeOf, day_of, instant_at, instant_of};
 ghost use Rattle.col_calendar.specs.Civil.{is_civil_day, is_within_day, local_instant};
-ghost use Rattle.col_calendar.specs.Civil.{nanos_per_day};
+ghost use Rattle.col_calendar.specs.Civil.{midnight_of};
 ghost use Rattle.col_calendar.specs.Conversion.{ArePartsOf, Converts, ConvertsOrNone, is_civil};
 
 use crate::offset::{FixedOffset, OffsetDateTime};
@@ -39,7 +39,7 @@ pub const EPOCH_DAYS_FROM_CE: i32 = 719_163;
 ///
 /// Refused: `OutOfRange` where the day is none from -9999-01-01 to 9999-12-31.
 pub fn date32_to_datetime(v: i32) -> Result<DateTime, Error>
-    ensures { Converts (is_civil_day v) (IsDateTimeOf (v *ℤ pos nanos_per_day)) result }
+    ensures { Converts (is_civil_day v) (IsDateTimeOf (midnight_of v)) result }
 {
     date32_to_datetime_opt(v).ok_or(Error::OutOfRange)
 }
@@ -47,7 +47,7 @@ pub fn date32_to_datetime(v: i32) -> Result<DateTime, Error>
 /// Midnight of day `v`, counted from 1970-01-01; `None` where the day is none from -9999-01-01 to
 /// 9999-12-31.
 pub fn date32_to_datetime_opt(v: i32) -> Option<DateTime>
-    ensures { ConvertsOrNone (is_civil_day v) (IsDateTimeOf (v *ℤ pos nanos_per_day)) result }
+    ensures { ConvertsOrNone (is_civil_day v) (IsDateTimeOf (midnight_of v)) result }
 {
     datetime_at(i64::from(v) * SECONDS_IN_DAY, 0)
 }
@@ -336,7 +336,7 @@ fn zoned_at(second: i64, nanosecond: u32, timezone: &FixedOffset) -> Option<Offs
 }
 
 // The second that a clock shows.
-fn local_second(second: i64, timezone: &FixedOffset) -> i64
+pub(crate) fn local_second(second: i64, timezone: &FixedOffset) -> i64
     requires { IsBetween (neg_ℤ (pos 377_705_116_800)) (pos 253_402_300_799) second }
     ensures { result ≡ second +ℤ timezone.now }
 {

@@ -6,8 +6,8 @@ use Rattle.col_calendar.proofs.parts.thursday_of_week.Goals as goal
 pub returns-clause-civil : goal.returns-clause-civil
 returns-clause-civil c =
     let is
-        : to_z w64 (of_z w64 (to_z w64 (of_z w64 c.args.day) -ℤ to_z w64 (of_z w64 c.from.result)))
-        +ℤ pos 3 ≡ thursday_of c.args.day =
+    : to_z w64 (of_z w64 (to_z w64 (of_z w64 c.args.day) -ℤ to_z w64 (of_z w64 c.from.result)))
+    +ℤ pos 3 ≡ thursday_of c.args.day =
     search rules in
     let P : ℤ → Type 0 = λ n. IsTrue (is_civil_day n) in
     search (rules, subst P (sym is) (thursday-civil c.args.day c.requires))
