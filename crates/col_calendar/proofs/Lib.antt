@@ -1,0 +1,4 @@
+pub mod CivilLemmas
+pub mod InstantLemmas
+pub mod KnownLemmas
+pub mod PartLemmas

@@ -1,0 +1,13 @@
+use Rattle.std.proofs.Common.{rules, ◌∙◌, arith}
+use Rattle.std.specs.Prelude.{IsTrue}
+use Rattle.col_calendar.specs.Conversion.{is_civil}
+use Rattle.col_calendar.specs.Civil.{instant_at, is_civil_day}
+use Rattle.col_calendar.proofs.InstantLemmas.{instant-day, parts_at}
+use Rattle.col_calendar.proofs.temporal_conversions.datetime_at.Goals as goal
+
+pub returns : goal.returns
+returns c = (
+  rw (instant-day c.args.second c.args.nanosecond c.requires) (search rules),
+  parts_at c.args.second c.args.nanosecond c.from_parts.result c.requires
+      (search rules) (search rules) (search rules),
+)

@@ -1,0 +1,12 @@
+pub use Rattle.col_types.specs.Answer
+pub use Rattle.col_types.specs.Column
+pub use Rattle.col_types.specs.DataKind
+pub use Rattle.jiff_core.specs.Calendar
+pub use Rattle.jiff_core.specs.Date
+pub use Rattle.jiff_core.specs.DateTime
+pub use Rattle.jiff_core.specs.Time
+pub mod Civil
+pub mod Conversion
+pub mod Laws
+pub mod Offset
+pub mod Part

@@ -1,0 +1,15 @@
+//! What the definitions on the calendar say together, each law as a function that does nothing.
+ghost use Rattle.col_calendar.specs.Laws.{DayNumbersTellDates, KnownDays};
+
+/// The year, the month and the day in the month of a date's day number are the date's own.
+pub fn day_numbers_tell_dates()
+    ensures { DayNumbersTellDates }
+{}
+
+/// Dates that the standards and almanacs give, from the first to the last: 1970-01-01 was a
+/// Thursday, 2000 had a 29 February, and 2021-01-03 was the Sunday of week 53.
+///
+/// Source: ISO 8601.
+pub fn known_days()
+    ensures { KnownDays }
+{}
