@@ -1,0 +1,4 @@
+pub mod CheckedLemmas
+pub mod ListLemmas
+pub mod MaskLemmas
+pub mod SumLemmas

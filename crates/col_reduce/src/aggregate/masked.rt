@@ -34,7 +34,7 @@ fn chunk_of<T>(values: &[T], i: usize) -> &[T]
     ensures { result.now ≡ cut values.now (64 * i) 64 }
 {
     let rest = &values[64 * i..];
-    if rest.len() > 64 { &rest[..64] } else { rest }
+    &rest[..rest.len().min(64)]
 }
 
 // The sum modulo 2^w of the values whose bit is 1, the first one's bit being the least.
