@@ -47,7 +47,7 @@ has_value-append (octets bs ∷ cells) others = refl
 has_value-append (list es ∷ cells) others = refl
 
 -- cells without a value add nothing
-exact_total-none : (cells : List Cell) → has_value cells ≡ false → exact_total cells ≡ pos 0
+pub exact_total-none : (cells : List Cell) → has_value cells ≡ false → exact_total cells ≡ pos 0
 exact_total-none [] h = refl
 exact_total-none (null ∷ cells) h = exact_total-none cells h
 exact_total-none (whole n ∷ cells) h = cc

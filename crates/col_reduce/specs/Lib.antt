@@ -9,4 +9,5 @@ pub use Rattle.col_flat.specs.Parts
 pub use Rattle.col_array.specs.Any
 pub mod Chosen
 pub mod Exact
+pub mod Laws
 pub mod Total
