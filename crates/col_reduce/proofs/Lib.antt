@@ -1,0 +1,5 @@
+pub mod CheckedLemmas
+pub mod LawLemmas
+pub mod ListLemmas
+pub mod MaskLemmas
+pub mod SumLemmas

@@ -1,0 +1,13 @@
+pub use Rattle.col_model.specs.Cell
+pub use Rattle.col_model.specs.Whole
+pub use Rattle.col_types.specs.Answer
+pub use Rattle.col_types.specs.CellOf
+pub use Rattle.col_types.specs.Column
+pub use Rattle.col_types.specs.DataKind
+pub use Rattle.col_types.specs.DataType
+pub use Rattle.col_flat.specs.Parts
+pub use Rattle.col_array.specs.Any
+pub mod Chosen
+pub mod Exact
+pub mod Laws
+pub mod Total
