@@ -66,7 +66,7 @@ fn words_and_length_come_before_the_document(rt: HostRuntime) -> Result<(), Erro
         (&["evl"], 3, Status::Words),
         (&["eval", "eval"], 3, Status::Words),
         (&["eval "], 67108865, Status::Words),
-        (&["sum"], 3, Status::Words),
+        (&["sum"], 67108865, Status::TooLong),
         (&["eval"], 67108865, Status::TooLong),
         (&["eval"], 67108864, Status::Malformed),
     ];

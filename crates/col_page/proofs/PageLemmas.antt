@@ -1,13 +1,17 @@
 -- Texts of cells and lines, one after another.
 use Rattle.std.proofs.Common.{◌≡◌, ℕ, ◌+◌, suc, zero, Bool, true, false, ◌||◌, List, [], ◌∷◌, ◌++◌}
-use Rattle.std.proofs.Common.{map, take}
+use Rattle.std.proofs.Common.{◌<◌, map, take, length, arith}
 use Rattle.std.proofs.Common.{slice_get, Some, refl, ap, sym, ◌∙◌, add-one, append_assoc}
 use Rattle.std.specs.List.{join_with_byte, flat_map, list_any}
 use Rattle.std.proofs.lemmas.List.{append-nil}
 use Rattle.std.proofs.lemmas.Grind.{flat_map-append}
 use Rattle.std.proofs.lemmas.List.Recursion.{or_push}
+use Rattle.std.specs.Prelude.{is_err, slice_index_or, Result}
 use Rattle.col_model.specs.Cell.{Cell}
-use Rattle.col_page.specs.Page.{cell_text, cells_text, comma_unless}
+use Rattle.col_types.specs.Column.{Column}
+use Rattle.col_types.specs.declared.error.Error.{Error}
+use Rattle.col_eval.specs.Tree.{Tree}
+use Rattle.col_page.specs.Page.{HasLines, IsLine, cell_text, cells_text, comma_unless, line_by}
 
 -- the front of a list, with what stands next
 take_suc-next : {X : Type 0} (xs : List X) (i : ℕ) (x : X) → slice_get xs i ≡ Some x
@@ -63,15 +67,38 @@ cells-end old start text after is_first cells left none begun done ended =
     ended ∙ rw whole (simp append_assoc)
 
 -- one more line
-pub flat_map-next : {X : Type 0} (f : X → List ℕ) (xs : List X) (i : ℕ) (x : X)
+flat_map-next : {X : Type 0} (f : X → List ℕ) (xs : List X) (i : ℕ) (x : X)
     → slice_get xs i ≡ Some x → flat_map f (take (i + 1) xs) ≡ flat_map f (take i xs) ++ f x
 flat_map-next f xs i x h = rw (take-next xs i x h, flat_map-append, append-nil) refl
 
 -- one more test
-pub list_any-next : {X : Type 0} (p : X → Bool) (xs : List X) (i : ℕ) (x : X)
+list_any-next : {X : Type 0} (p : X → Bool) (xs : List X) (i : ℕ) (x : X)
     → slice_get xs i ≡ Some x → list_any p (take (i + 1) xs) ≡ (list_any p (take i xs) || p x)
 list_any-next p xs i x h =
     rw (take-next xs i x h) (or_push (list_any p) p refl (λ _ _. refl) (take i xs) x)
+
+-- the line of the next tree
+pub lines-next : {X : Type 0} (text : X → List ℕ) (answer : Tree → List Column → Result X Error)
+    (table used : List Column) (trees : List Tree) (i : ℕ) (tree : Tree) (old now new : List ℕ)
+    (has_error is_error : Bool)
+    → HasLines text answer table (take i trees) old now has_error
+    → slice_get trees i ≡ Some tree → used ≡ table
+    → IsLine text (answer tree used) now new is_error
+    → HasLines text answer table (take (i + 1) trees) old new (has_error || is_error)
+lines-next text answer table used trees i tree old now new has_error is_error done is same line =
+    record {
+      lines = rw (flat_map-next (λ t. line_by text (answer t table)) trees i tree is)
+          (line.text ∙ rw (same, done.lines) (append_assoc old _ _));
+      error = rw (list_any-next (λ t. is_err (answer t table)) trees i tree is)
+          (rw (done.error, line.kind, same) refl);
+    }
+
+-- an element at a place, as a view shows it
+pub element-viewed : {X Y : Type 0} (view : X → Y) (xs : List X) (i : ℕ) (x : X) → i < length xs
+    → x ≡ slice_index_or xs i x → slice_get (map view xs) i ≡ Some (view x)
+element-viewed view [] i x below is = absurd (omega arith)
+element-viewed view (y ∷ xs) zero x below is = ap (λ z. Some (view z)) (sym is)
+element-viewed view (y ∷ xs) (suc i) x below is = element-viewed view xs i x (omega arith) is
 
 -- three texts in brackets, joined by commas, behind a text
 pub three_appended : (t a b c : List ℕ)

@@ -5,3 +5,6 @@ pub use Rattle.col_document.specs.TypeText
 pub use Rattle.col_document.specs.View
 pub mod Page
 pub mod PageView
+pub mod Sums
+pub mod Generator
+pub mod Laws

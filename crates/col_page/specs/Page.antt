@@ -10,6 +10,7 @@ use Rattle.col_types.specs.declared.error.Error.TheVariants.{Memory, NotYetImple
 use Rattle.col_types.specs.declared.error.Error.TheVariants.{InvalidArgumentError, Overflow}
 use Rattle.col_types.specs.declared.error.Error.TheVariants.{DivideByZero, OutOfRange, OutOfSpec}
 use Rattle.col_eval.specs.Meaning.{outcome_of}
+use Rattle.col_eval.specs.Tree.{Tree}
 use Rattle.col_document.specs.Document.{DocumentView}
 use Rattle.col_document.specs.TypeText.{type_text}
 
@@ -42,21 +43,33 @@ error_name DivideByZero = codes "DivideByZero"
 error_name OutOfRange = codes "OutOfRange"
 error_name OutOfSpec = codes "OutOfSpec"
 
--- the line of an outcome: the column's type and cells, or the error's name
-abbrev pub line_text : Result Column Error → List ℕ
-line_text (Ok c) = type_text c.data_type ++ codes " " ++ cells_text c.cells ++ codes "\n"
-line_text (Err e) = codes "error " ++ error_name e ++ codes "\n"
+-- a line, and its end: the text of what is answered, or the error's name
+abbrev pub line_by : {X : Type 0} → (X → List ℕ) → Result X Error → List ℕ
+line_by text (Ok x) = text x ++ codes "\n"
+line_by text (Err e) = codes "error " ++ error_name e ++ codes "\n"
 
--- the page of a document: the line of each tree's outcome, in order
+-- the text of a column: its type and its cells
+abbrev pub column_text : Column → List ℕ
+column_text c = type_text c.data_type ++ codes " " ++ cells_text c.cells
+
+-- the page of a document: for each tree, in order, a line with its column or its refusal
 abbrev pub page_text : DocumentView → List ℕ
-page_text d = flat_map (λ tree. line_text (outcome_of tree d.table)) d.trees
+page_text d = flat_map (λ tree. line_by column_text (outcome_of tree d.table)) d.trees
 
 -- whether some line is an error line
 abbrev pub has_error_line : DocumentView → Bool
 has_error_line d = list_any (λ tree. is_err (outcome_of tree d.table)) d.trees
 
--- a line was added for an outcome, and its kind told
-pub record IsLine (outcome : Result Column Error) (old new : List ℕ)
+-- a line was added for an answer, and its kind told
+pub record IsLine {X : Type 0} (text_of : X → List ℕ) (answer : Result X Error) (old new : List ℕ)
     (is_error : Bool) : Type 0 where
-  pub text : new ≡ old ++ line_text outcome
-  pub kind : is_error ≡ is_err outcome
+  pub text : new ≡ old ++ line_by text_of answer
+  pub kind : is_error ≡ is_err answer
+
+-- the lines of what trees are answered over a table came behind a text, and the flag tells whether
+-- some is an error line
+pub record HasLines {X : Type 0} (text_of : X → List ℕ)
+    (answer : Tree → List Column → Result X Error) (table : List Column) (trees : List Tree)
+    (old new : List ℕ) (has_error : Bool) : Type 0 where
+  pub lines : new ≡ old ++ flat_map (λ tree. line_by text_of (answer tree table)) trees
+  pub error : has_error ≡ list_any (λ tree. is_err (answer tree table)) trees

@@ -6,10 +6,8 @@ ghost use Rattle.col_flat.specs.Parts.{column_of, native_cell};
 ghost use Rattle.col_array.specs.Any.{any_column};
 ghost use Rattle.col_eval.specs.Meaning.{outcome_of};
 ghost use Rattle.col_eval.specs.Tree.{tree_of};
-ghost use Rattle.col_page.specs.Page.{cell_text, cells_text, error_name, has_error_line};
-ghost use Rattle.col_page.specs.Page.{line_text, page_text};
-ghost use Rattle.col_page.specs.Page.{IsLine, comma_unless};
-ghost use Rattle.col_document.specs.TypeText.{type_text};
+ghost use Rattle.col_page.specs.Page.{IsLine, cell_text, cells_text, column_text, comma_unless};
+ghost use Rattle.col_page.specs.Page.{error_name, has_error_line, page_text};
 ghost use Rattle.col_document.specs.View.{document_view};
 
 use crate::cell_texts::{Printed, push_slot};
@@ -39,6 +37,13 @@ impl Model for Page {
 }
 
 impl Page {
+    // The page of a text.
+    pub(crate) fn new(text: Vec<u8>, has_error: bool) -> Page
+        ensures { result ≡ record { text = text.items; has_error = has_error } }
+    {
+        Page { text, has_error }
+    }
+
     /// The bytes of the text.
     pub fn bytes(&self) -> &[u8]
         ensures { result.now ≡ self.now.text }
@@ -65,12 +70,12 @@ pub fn page_of(alloc: Global, doc: &Document) -> Result<Page, Error>
     for i in 0..doc.tree_count() {
         has_error |= push_line(alloc, &mut text, doc.table(), doc.tree(i))?;
     }
-    Ok(Page { text, has_error })
+    Ok(Page::new(text, has_error))
 }
 
 // Adds the line of a tree's outcome, and tells whether it is an error line.
 fn push_line(alloc: Global, text: &mut Vec<u8>, table: &Table, tree: &Expr) -> Result<bool, Error>
-    ensures value { IfOk result (IsLine (outcome_of (tree_of tree.now) table.now)
+    ensures value { IfOk result (IsLine column_text (outcome_of (tree_of tree.now) table.now)
         text.old.items text.new.items) }
     ensures refused { FailsByMemory result }
 {
@@ -87,8 +92,8 @@ fn push_line(alloc: Global, text: &mut Vec<u8>, table: &Table, tree: &Expr) -> R
     }
 }
 
-// Adds the line of a refusal.
-fn push_error(text: &mut Vec<u8>, error: Error) -> Result<(), Error>
+/// Adds the line of a refusal.
+pub fn push_error(text: &mut Vec<u8>, error: Error) -> Result<(), Error>
     ensures value { IfOk result (λ _. text.new.items
         ≡ text.old.items ++ (codes "error " ++ error_name error ++ codes "\n")) }
     ensures refused { FailsByMemory result }
@@ -117,8 +122,7 @@ fn variant_name(error: Error) -> &'static str
 // Adds the line of a column.
 fn push_column(text: &mut Vec<u8>, column: &AnyArray) -> Result<(), Error>
     ensures value { IfOk result (λ _. text.new.items
-        ≡ text.old.items ++ (type_text (any_column column.now).data_type ++ codes " "
-        ++ cells_text (any_column column.now).cells ++ codes "\n")) }
+        ≡ text.old.items ++ (column_text (any_column column.now) ++ codes "\n")) }
     ensures refused { FailsByMemory result }
 {
     push_type(text, column.data_type())?;

@@ -1,1 +1,3 @@
 pub mod StreamsLemmas
+pub mod WordLemmas
+pub mod EndLemmas

@@ -1,8 +1,10 @@
 -- Laws of whole runs.
-use Rattle.std.specs.Prelude.{◌≡◌, ℕ, ◌⊎◌, nat_lt, List, [], length, Option, Some, None, IfSome}
-use Rattle.std.specs.Prelude.{if◌then◌else◌}
+use Rattle.std.specs.Prelude.{◌≡◌, ◌↔◌, ℕ, ◌⊎◌, nat_lt, List, [], length, Option, Some, None}
+use Rattle.std.specs.Prelude.{if◌then◌else◌, IfSome}
+use Rattle.std.specs.Fmt.{decimal}
+use Rattle.col_page.specs.Generator.{IsRowCount}
 use Rattle.col_page.specs.PageView.{PageView}
-use Rattle.col_run.specs.Command.{page_of_command, reads_source}
+use Rattle.col_run.specs.Command.{page_of_command, reads_source, rows_named}
 use Rattle.col_run.specs.Run.{max_bytes}
 use Rattle.col_run.specs.declared.words.Command.{Command}
 use Rattle.col_run.specs.declared.status.Status.{Status}
@@ -32,3 +34,8 @@ abbrev pub EndsByInput : Option Command → Option (List ℕ) → Type 0 → Typ
 EndsByInput command left read_fault write_fault status = IfSome (input_of command left)
     (λ bytes. ¬ read_fault → ¬ write_fault
     → (status ≡ status_of command bytes) ⊎ (status ≡ Memory))
+
+-- a word names a number of rows exactly where it is the number's digits, and so many are made
+abbrev pub NamesItsRows : Type 0
+NamesItsRows = (word : List ℕ) (n : ℕ) →
+    (rows_named word ≡ Some n) ↔ ((word ≡ decimal n) × IsRowCount n)

@@ -1,9 +1,9 @@
 //! What the program does, from its words to its status.
-ghost use Rattle.std.specs.Prelude.{◌≡◌, ◌↔◌, ◌≤◌, Some, None, IfOk, IfErr};
+ghost use Rattle.std.specs.Prelude.{◌≡◌, ◌↔◌, Some, None, IfOk, IfErr};
 ghost use Rattle.col_run.specs.Streams.{FaultsRose};
-ghost use Rattle.col_run.specs.Command.{command_of, page_of_command};
+ghost use Rattle.col_run.specs.Command.{IsAsked, command_of, page_of_command, reads_source};
 ghost use Rattle.col_document.specs.Reading.{Reads};
-ghost use Rattle.col_run.specs.Run.{HasInput, IsStopped, TakesWithin, WritesPage};
+ghost use Rattle.col_run.specs.Run.{HasInput, IsStopped, ReadsWhere, TakesWithin, WritesPage};
 ghost use Rattle.col_run.specs.declared.status.Status.TheVariants.{Malformed, Memory, ReadFault};
 ghost use Rattle.col_run.specs.declared.status.Status.TheVariants.{TooLong, WriteFault, Words};
 
@@ -13,18 +13,17 @@ use crate::status::Status;
 use crate::transfer::{Stop, read_all, write_all};
 use crate::words::{Command, read_command};
 use col_document::{ReadError, read_document};
-use col_page::{Page, page_of};
+use col_page::{Page, made, page_of, sums_of};
 use std::alloc::Global;
 
-/// Runs the command of the words: `eval` reads a document from the source and writes its page to
-/// the sink, a line for each tree. The text is made whole before its first byte is written.
+/// Runs the command of the words: `eval` and `sum` take a document from the source, and `make N`
+/// takes nothing. The text is made whole before its first byte is written to the sink.
 ///
-/// It ends, in this order, with `Words` where the words are no command; `ReadFault` where the
+/// It ends, in this order, with `Words` where the words are no command; `ReadFault`, only where the
 /// source failed; `TooLong` where it has more than 67108864 bytes; `Malformed` where they are no
-/// document; `WriteFault` where the sink failed; else with `Refused` where some line is an error
-/// line, and `Done` where none is. `Memory` may come at any point before the writing. `WriteFault`
-/// leaves a front of the page in the sink, each earlier ending leaves the sink as it was, and
-/// `Words` the source too.
+/// document; `WriteFault`, only where the sink failed, and then a front of the text is in it; else
+/// `Refused` where some line is an error line, and `Done` where none is. `Memory` may come before
+/// the first write. All but `Done`, `Refused` and `WriteFault` leave the sink as it was.
 pub fn run<S: Source, K: Sink>(
     alloc: Global,
     words: &[String],
@@ -60,17 +59,13 @@ pub fn run<S: Source, K: Sink>(
 
 // The page of a command, of what the source has left, or the status that says why there is none.
 fn page_for<S: Source>(alloc: Global, command: Command, source: &mut S) -> Result<Page, Status>
+    requires { IsAsked command }
     ensures page { IfOk result (λ page. HasInput (Some command)
         S.left source.old source.new (λ made. made ≡ Some page)) }
     ensures refused { IfErr result (IsStopped (Some command) S.left source.old source.new
         (FaultsRose (S.faults source.old) (S.faults source.new))) }
 {
-    let bytes = match read_all(alloc, source) {
-        Ok(bytes) => bytes,
-        Err(Stop::ReadFault) => return Err(Status::ReadFault),
-        Err(Stop::Memory) => return Err(Status::Memory),
-        Err(Stop::TooLong) => return Err(Status::TooLong),
-    };
+    let bytes = input_for(alloc, command, source)?;
     match page_of_input(alloc, command, bytes) {
         Ok(page) => Ok(page),
         Err(ReadError::Malformed) => Err(Status::Malformed),
@@ -78,18 +73,40 @@ fn page_for<S: Source>(alloc: Global, command: Command, source: &mut S) -> Resul
     }
 }
 
+// What a command reads: all that the source has left, or nothing.
+fn input_for<S: Source>(alloc: Global, command: Command, source: &mut S) -> Result<Vec<u8>, Status>
+    ensures value { IfOk result (λ bytes. ReadsWhere (reads_source command)
+        S.left source.old source.new (λ input. input ≡ bytes.items)) }
+    ensures refused { IfErr result (IsStopped (Some command) S.left source.old source.new
+        (FaultsRose (S.faults source.old) (S.faults source.new))) }
+{
+    if !command.has_input() {
+        return Ok(Vec::new(alloc));
+    }
+    match read_all(alloc, source) {
+        Ok(bytes) => Ok(bytes),
+        Err(Stop::ReadFault) => Err(Status::ReadFault),
+        Err(Stop::Memory) => Err(Status::Memory),
+        Err(Stop::TooLong) => Err(Status::TooLong),
+    }
+}
+
 // The page of a command, of these bytes. The bytes go as soon as they are read.
 fn page_of_input(alloc: Global, command: Command, bytes: Vec<u8>) -> Result<Page, ReadError>
+    requires { IsAsked command }
     ensures { Reads (λ page. page) result (page_of_command command bytes.items) }
 {
     match command {
         Command::Eval => {
             let document = read_document(alloc, bytes.as_slice())?;
             drop(bytes);
-            match page_of(alloc, &document) {
-                Ok(page) => Ok(page),
-                Err(_) => Err(ReadError::Memory),
-            }
+            page_of(alloc, &document).map_err(|_| ReadError::Memory)
         }
+        Command::Sum => {
+            let document = read_document(alloc, bytes.as_slice())?;
+            drop(bytes);
+            sums_of(alloc, &document).map_err(|_| ReadError::Memory)
+        }
+        Command::Make(n) => made(alloc, n).map_err(|_| ReadError::Memory),
     }
 }

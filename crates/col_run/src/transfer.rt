@@ -36,8 +36,8 @@ impl From<AllocError> for Stop {
 
 /// All the bytes that the source has left.
 ///
-/// Refused, in this order: `ReadFault` where the source failed; `TooLong` where one byte more than
-/// `LIMIT` was read. What was read is gone from the source.
+/// Refused, in this order: `ReadFault`, only where the source failed; `TooLong` where one byte more
+/// than `LIMIT` was read. What was read is gone from the source.
 pub(crate) fn read_all<S: Source>(alloc: Global, source: &mut S) -> Result<Vec<u8>, Stop>
     ensures value { IfOk result
         (λ bytes. TakesAll (S.left source.old) bytes.items (S.left source.new)) }
@@ -70,7 +70,7 @@ pub(crate) fn read_all<S: Source>(alloc: Global, source: &mut S) -> Result<Vec<u
 
 /// Writes all the bytes.
 ///
-/// Refused where the sink failed; then some front of the bytes was written.
+/// Refused only where the sink failed; then some front of the bytes was written.
 pub(crate) fn write_all<K: Sink>(sink: &mut K, bytes: &[u8]) -> Result<(), Failed>
     ensures value { OnOk result (AddsBytes (K.written sink.old) bytes.now (K.written sink.new)) }
     ensures kept { OnErr result (AddsFront (K.written sink.old) bytes.now (K.written sink.new)) }
