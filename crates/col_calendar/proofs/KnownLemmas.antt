@@ -58,7 +58,8 @@ last_thursday =
 pub known_first : IsKnownDay (neg_ℤ (pos 4_371_587)) (neg_ℤ (pos 9_999)) 1 1 1 1
 unfolding weekday_number days_of_months
 known_first =
-    known (date (neg_ℤ (pos 9_999)) 1 1 (search rules)) (date (neg_ℤ (pos 9_999)) 1 4 (search rules))
+    known (date (neg_ℤ (pos 9_999)) 1 1 (search rules))
+    (date (neg_ℤ (pos 9_999)) 1 4 (search rules))
     (neg_ℤ (pos 4_371_587)) (neg_ℤ (pos 4_371_584)) 0 4
     days_from_civil-min refl first_thursday refl refl
 

@@ -96,7 +96,7 @@ weekday_of_day n = weekday_number n + 1
 abbrev pub thursday_of : ℤ → ℤ
 thursday_of n = n -ℤ pos (weekday_number n) +ℤ pos 3
 
--- its week by ISO 8601: week 1 has the first Thursday of a year, so that a week's number is how many
--- Thursdays of that year have come with it
+-- its week by ISO 8601: week 1 has the first Thursday of a year, so that a week's number is how
+-- many Thursdays of that year have come with it
 abbrev pub iso_week_of : ℤ → ℕ
 iso_week_of n = 1 + (place_in_year (thursday_of n) - 1) / 7

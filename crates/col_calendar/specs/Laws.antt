@@ -1,4 +1,4 @@
--- What the definitions on the calendar say together, and dates that the standards and almanacs give.
+-- What the definitions on the calendar say together, and days that are known.
 use Rattle.std.specs.Prelude.{◌≡◌, ℕ, ℤ, pos, neg_ℤ}
 use Rattle.jiff_core.specs.Date.{epoch_day, ordinal}
 use Rattle.jiff_core.specs.declared.civil.date.Date.{Date}
