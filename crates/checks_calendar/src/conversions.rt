@@ -1,12 +1,14 @@
 //! Dates, times and date-times of numbers.
 use col_calendar::{
-    FixedOffset, OffsetDateTime, date32_to_date, date32_to_date_opt, date32_to_datetime,
-    date32_to_datetime_opt, date64_to_date, date64_to_datetime, duration_ms_to_duration,
-    duration_ns_to_duration, duration_s_to_duration, duration_us_to_duration, time32ms_to_time,
-    time32s_to_time, time64ns_to_time, time64ns_to_time_opt, time64us_to_time,
-    time64us_to_time_opt, timestamp_ms_to_datetime, timestamp_ns_to_datetime,
-    timestamp_ns_to_datetime_opt, timestamp_s_to_datetime, timestamp_s_to_datetime_opt,
-    timestamp_to_datetime, timestamp_to_naive_datetime, timestamp_us_to_datetime, timeunit_scale,
+    EPOCH_DAYS_FROM_CE, FixedOffset, OffsetDateTime, date32_to_date, date32_to_date_opt,
+    date32_to_datetime, date32_to_datetime_opt, date64_to_date, date64_to_datetime,
+    duration_ms_to_duration, duration_ns_to_duration, duration_s_to_duration,
+    duration_us_to_duration, time32ms_to_time, time32s_to_time, time64ns_to_time,
+    time64ns_to_time_opt, time64us_to_time, time64us_to_time_opt, timestamp_ms_to_datetime,
+    timestamp_ms_to_datetime_opt, timestamp_ns_to_datetime, timestamp_ns_to_datetime_opt,
+    timestamp_s_to_datetime, timestamp_s_to_datetime_opt, timestamp_to_datetime,
+    timestamp_to_naive_datetime, timestamp_us_to_datetime, timestamp_us_to_datetime_opt,
+    timeunit_scale,
 };
 use col_types::{Error, TimeUnit};
 use jiff::civil::{Date, DateTime, Time};
@@ -30,6 +32,7 @@ fn a_day_number_has_its_date(rt: HostRuntime) {
     assert!(rt; date32_to_date(-4_371_587).ok() == date(-9999, 1, 1));
     assert!(rt; date32_to_date_opt(11_016) == date(2000, 2, 29));
     assert!(rt; date64_to_date(-1).ok() == date(1969, 12, 31));
+    assert!(rt; date32_to_date(1 - EPOCH_DAYS_FROM_CE).ok() == date(1, 1, 1));
     for day in [2_932_897, -4_371_588] {
         assert_eq!(rt; date32_to_date(day).err(), Some(Error::OutOfRange), "{day}");
         assert!(rt; date32_to_date_opt(day).is_none(), "{day}");
@@ -61,6 +64,8 @@ fn an_instant_past_9999_has_no_date_time(rt: HostRuntime) {
     );
     assert!(rt; timestamp_s_to_datetime_opt(253_402_300_800).is_none());
     assert!(rt; timestamp_s_to_datetime_opt(i64::MIN).is_none());
+    assert!(rt; timestamp_ms_to_datetime_opt(253_402_300_800_000).is_none());
+    assert!(rt; timestamp_us_to_datetime_opt(253_402_300_800_000_000).is_none());
     assert!(rt; timestamp_ns_to_datetime_opt(i64::MIN).is_some());
     assert!(rt; timestamp_ns_to_datetime_opt(i64::MAX).is_some());
 }
@@ -109,7 +114,11 @@ fn a_clock_shows_an_instant(rt: HostRuntime) {
     assert!(rt; Some(local) == DateTime::new(1969, 12, 31, 22, 30, 0, 0).ok());
     assert_eq!(rt; seconds, -5_400);
     let first = timestamp_to_datetime(-377_705_116_800, TimeUnit::Second, &zone);
-    assert_eq!(rt; first.err(), Some(Error::OutOfRange));
+    assert_eq!(rt;
+        first.err(),
+        Some(Error::OutOfRange),
+        "the local date-time alone"
+    );
 }
 
 #[test]
