@@ -13,7 +13,7 @@ const MOST: i128 = 99999999999999999999999999999999999999;
 type Decimal = (usize, usize, i128);
 
 // A step on two decimals, and its answer.
-const ANSWERS: [(Step, Decimal, Decimal, Decimal); 16] = [
+const ANSWERS: [(Step, Decimal, Decimal, Decimal); 23] = [
     (Step::Add, (5, 0, 99999), (5, 0, 1), (6, 0, 100000)),
     (
         Step::Add,
@@ -45,10 +45,17 @@ const ANSWERS: [(Step, Decimal, Decimal, Decimal); 16] = [
     (Step::Div, (6, 4, -100000), (7, 2, 300), (9, 4, -33333)),
     (Step::Add, (38, 0, MOST), (38, 0, 0), (38, 0, MOST)),
     (Step::Mul, (5, 2, -9), (5, 2, 9), (5, 2, 0)),
+    (Step::Sub, (6, 4, -999999), (6, 4, 1), (7, 4, -1000000)),
+    (Step::Mul, (5, 3, 2000), (6, 1, 10), (8, 3, 2000)),
+    (Step::Add, (38, 0, -MOST), (38, 0, 0), (38, 0, -MOST)),
+    (Step::Sub, (38, 0, MOST), (38, 0, 0), (38, 0, MOST)),
+    (Step::Mul, (38, 0, MOST), (38, 0, 1), (38, 0, MOST)),
+    (Step::Div, (38, 0, MOST), (38, 0, 1), (38, 0, MOST)),
+    (Step::Mul, (38, 0, -MOST), (38, 0, 1), (38, 0, -MOST)),
 ];
 
 // Steps that are refused, and why.
-const REFUSALS: [(Step, Decimal, Decimal, Error); 12] = [
+const REFUSALS: [(Step, Decimal, Decimal, Error); 22] = [
     (Step::Add, (38, 38, 1), (38, 0, 1), PARAMETERS),
     (Step::Add, (20, 19, 0), (37, 0, 0), PARAMETERS),
     (Step::Div, (5, 2, i128::MAX), (5, 3, 0), Error::DivideByZero),
@@ -66,6 +73,46 @@ const REFUSALS: [(Step, Decimal, Decimal, Error); 12] = [
         Error::Overflow,
     ),
     (Step::Div, (38, 0, i128::MIN), (1, 0, -1), Error::Overflow),
+    (Step::Add, (38, 0, 0), (2, 1, 0), PARAMETERS),
+    (Step::Add, (38, 0, 0), (38, 38, 0), PARAMETERS),
+    (Step::Sub, (38, 0, MOST), (38, 0, -1), Error::Overflow),
+    (
+        Step::Mul,
+        (38, 0, 10000000000000000000),
+        (38, 0, 10000000000000000000),
+        Error::Overflow,
+    ),
+    (
+        Step::Add,
+        (38, 0, i128::MAX),
+        (38, 0, i128::MAX),
+        Error::Overflow,
+    ),
+    (
+        Step::Sub,
+        (38, 0, i128::MAX),
+        (38, 0, i128::MIN),
+        Error::Overflow,
+    ),
+    (
+        Step::Mul,
+        (38, 19, 20000000000000000000),
+        (38, 19, 20000000000000000000),
+        Error::Overflow,
+    ),
+    (Step::Mul, (38, 0, i128::MIN), (38, 0, -1), Error::Overflow),
+    (
+        Step::Mul,
+        (38, 0, i128::MAX),
+        (38, 0, i128::MAX),
+        Error::Overflow,
+    ),
+    (
+        Step::Sub,
+        (5, 2, i128::MAX),
+        (5, 3, i128::MAX),
+        Error::Overflow,
+    ),
 ];
 
 const PARAMETERS: Error = Error::InvalidArgumentError(Reason::Parameters);

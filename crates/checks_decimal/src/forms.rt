@@ -12,7 +12,7 @@ const MOST: i128 = 99999999999999999999999999999999999999;
 type Row = [Option<i128>; 4];
 
 // Sums of `Decimal(5, 2)`.
-const SUMS: [Row; 12] = [
+const SUMS: [Row; 15] = [
     [Some(-99999), Some(-99999), None, Some(-99999)],
     [Some(11111), Some(22222), Some(33333), Some(33333)],
     [Some(99998), Some(1), Some(99999), Some(99999)],
@@ -25,10 +25,13 @@ const SUMS: [Row; 12] = [
     [Some(i128::MAX), Some(i128::MIN), Some(-1), Some(-1)],
     [None, Some(1), None, None],
     [Some(1), None, None, None],
+    [Some(-99998), Some(-1), Some(-99999), Some(-99999)],
+    [Some(-1), Some(200000), None, Some(99999)],
+    [None, None, None, None],
 ];
 
 // Differences of `Decimal(5, 2)`.
-const DIFFERENCES: [Row; 12] = [
+const DIFFERENCES: [Row; 14] = [
     [Some(99999), Some(-99999), None, Some(99999)],
     [Some(11111), Some(22222), Some(-11111), Some(-11111)],
     [Some(99999), Some(0), Some(99999), Some(99999)],
@@ -41,10 +44,12 @@ const DIFFERENCES: [Row; 12] = [
     [Some(-1), Some(i128::MIN), None, Some(99999)],
     [Some(i128::MIN), Some(i128::MIN), Some(0), Some(0)],
     [None, Some(1), None, None],
+    [Some(i128::MAX), Some(i128::MIN), None, Some(99999)],
+    [Some(-99998), Some(1), Some(-99999), Some(-99999)],
 ];
 
 // Products of `Decimal(5, 2)`.
-const PRODUCTS: [Row; 18] = [
+const PRODUCTS: [Row; 21] = [
     [Some(99999), Some(1000), None, Some(99999)],
     [Some(100), Some(200), Some(200), Some(200)],
     [Some(99999), Some(-100), Some(-99999), Some(-99999)],
@@ -63,10 +68,13 @@ const PRODUCTS: [Row; 18] = [
     [Some(i128::MIN), Some(1), None, Some(-99999)],
     [Some(i128::MIN), Some(-1), None, Some(99999)],
     [Some(100), None, None, None],
+    [None, None, None, None],
+    [Some(-100000), Some(100), None, Some(-99999)],
+    [Some(100000), Some(100), None, Some(99999)],
 ];
 
 // Quotients of `Decimal(5, 2)`.
-const QUOTIENTS: [Row; 15] = [
+const QUOTIENTS: [Row; 17] = [
     [Some(600), Some(200), Some(300), Some(300)],
     [Some(400), None, None, None],
     [Some(99999), Some(100), Some(99999), Some(99999)],
@@ -82,6 +90,8 @@ const QUOTIENTS: [Row; 15] = [
     [Some(0), Some(i128::MIN), Some(0), Some(0)],
     [Some(-99999), Some(i128::MIN), Some(0), Some(0)],
     [None, Some(0), None, None],
+    [Some(100000), Some(100), None, Some(99999)],
+    [Some(-100000), Some(100), None, Some(-99999)],
 ];
 
 // Sums of `Decimal(38, 0)`.
@@ -126,6 +136,29 @@ const LONG_PRODUCTS: [Row; 6] = [
         Some(-MOST),
     ],
     [Some(i128::MIN), Some(i128::MIN), None, Some(MOST)],
+];
+
+// Products of `Decimal(38, 19)`: the first two pass 128 bits, though their quotients by 10^19 would
+// fit.
+const PRODUCTS_PAST_128_BITS: [Row; 3] = [
+    [
+        Some(20000000000000000000),
+        Some(20000000000000000000),
+        None,
+        Some(MOST),
+    ],
+    [
+        Some(20000000000000000000),
+        Some(-20000000000000000000),
+        None,
+        Some(-MOST),
+    ],
+    [
+        Some(10000000000000000000),
+        Some(10000000000000000000),
+        Some(10000000000000000000),
+        Some(10000000000000000000),
+    ],
 ];
 
 // Quotients of `Decimal(38, 0)`.
@@ -219,6 +252,8 @@ fn each_form_answers_with_ample_memory(rt: HostRuntime) -> Result<(), Error> {
             "{step:?} at 38 digits"
         );
     }
+    let told = first_wrong(alloc, Step::Mul, 38, 19, &PRODUCTS_PAST_128_BITS)?;
+    assert_eq!(rt; told, None, "products past 128 bits");
     Ok(())
 }
 
@@ -274,7 +309,7 @@ fn parameters_come_before_lengths_and_these_before_rows(rt: HostRuntime) {
 
 // What a step answers for one number and a null scalar of a precision.
 fn beside_null(alloc: Global, step: Step, precision: usize) -> Answer {
-    let lhs = decimals(alloc, 5, 2, &[Some(100000)])?;
+    let lhs = decimals(alloc, 5, 2, &[Some(i128::MAX)])?;
     let scalar = PrimitiveScalar::new(DataType::Decimal(precision, 2), None)?;
     told(step.scalar(alloc, &lhs, &scalar))
 }

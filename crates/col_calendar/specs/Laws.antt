@@ -14,7 +14,7 @@ pub record IsKnownDay (n : ℤ) (year : ℤ) (month day weekday week : ℕ) : Ty
   pub is_week : iso_week_of n ≡ week
 
 -- the first day that there is was a Monday; day 0, 1970-01-01, a Thursday; 2000 had a 29 February;
--- 2021-01-03 was the Sunday of week 53 of 2020; and the last day is a Friday
+-- 2021-01-03 was the Sunday of a week 53; and the last day is a Friday
 pub record KnownDays : Type 0 where
   pub first : IsKnownDay (neg_ℤ (pos 4_371_587)) (neg_ℤ (pos 9_999)) 1 1 1 1
   pub epoch : IsKnownDay (pos 0) (pos 1_970) 1 1 4 1

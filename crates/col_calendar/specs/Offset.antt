@@ -1,6 +1,6 @@
 -- The texts of offsets: `UTC`, or hours and minutes with a sign for both, as `-01:30`.
 use Rattle.std.specs.Prelude.{ℕ, ◌+◌, ◌-◌, ◌*◌, ◌==◌, nat_le, nat_lt, Bool, false, ◌&&◌, ℤ, pos}
-use Rattle.std.specs.Prelude.{neg_ℤ, int_lt, unsigned_abs, if◌then◌else◌, List, [], ◌∷◌, Option}
+use Rattle.std.specs.Prelude.{neg_ℤ, unsigned_abs, if◌then◌else◌, List, [], ◌∷◌, Option}
 use Rattle.std.specs.Prelude.{Some, None, option_map, Result, Ok, Err}
 use Rattle.col_types.specs.declared.error.Error.{Error}
 use Rattle.col_types.specs.declared.error.Error.TheVariants.{InvalidArgumentError}

@@ -1,6 +1,6 @@
 -- The parts of dates and times, and what a kernel answers that takes one of a column.
-use Rattle.std.specs.Prelude.{◌≡◌, ℕ, ◌+◌, ◌/◌, ◌%◌, Bool, true, false, ◌&&◌, not, ℤ, pos}
-use Rattle.std.specs.Prelude.{if◌then◌else◌, ◌*ℤ◌, Option, Some, None, Result, Ok, Err}
+use Rattle.std.specs.Prelude.{ℕ, ◌/◌, ◌%◌, Bool, true, false, ◌&&◌, not, ℤ, pos}
+use Rattle.std.specs.Prelude.{if◌then◌else◌, Option, Some, None, Result, Ok, Err}
 use Rattle.col_model.specs.Cell.{Cell, null, whole, Cause, out_of_range}
 use Rattle.col_model.specs.WholeStep.{each_cell}
 use Rattle.col_types.specs.declared.datatypes.TimeUnit.{TimeUnit}

@@ -43,8 +43,8 @@ step_answer op left right = entry_answer (entry_of op left.data_type right.data_
 abbrev pub constant_column : DataKind → Cell → Column → Column
 constant_column t cell beside = record { data_type = t; cells = replicate (row_count beside) cell }
 
--- what a step answers for a column and a scalar of a type: the scalar's cell stands beside each row,
--- and a row that takes no literal is none
+-- what a step answers for a column and a scalar of a type: the scalar's cell stands beside each
+-- row, and a row that takes no literal is none
 abbrev pub scalar_step_answer : Op → Column → DataKind → Cell → Result Column Error
 scalar_step_answer op left t cell =
     entry_answer (beside_literal (entry_of op left.data_type t)) left (constant_column t cell left)

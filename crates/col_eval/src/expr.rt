@@ -3,7 +3,8 @@ use col_array::AnyScalar;
 
 /// The steps of a tree: an operation, in a form that says what becomes of a row whose exact number
 /// does not fit, or that has none. A null beside anything gives null. A quotient goes toward zero,
-/// and a remainder has the dividend's sign.
+/// and a remainder has the dividend's sign. What fits, and which end a clamped number takes, is of
+/// decimals as `col_decimal` has it.
 #[derive(Clone, Copy, Debug, PartialEq, Eq)]
 pub enum Op {
     /// The sum; a row whose sum does not fit is refused.

@@ -36,9 +36,9 @@ pub fn div(
 /// null slot stays null, and where the scalar is null each slot is; the type is that of `lhs`.
 ///
 /// Refused, in this order: `Parameters` exactly where precision or scale differ; `DivideByZero`
-/// exactly where the scalar is 0 and some slot is valid; `Overflow` exactly where the stored number
-/// of some valid slot times 10^s passes 128 bits or the quotient has more digits than the
-/// precision.
+/// exactly where the scalar is 0 and some slot is valid; `Overflow` exactly where the scalar is
+/// valid and the stored number of some valid slot times 10^s passes 128 bits or the quotient has
+/// more digits than the precision.
 pub fn div_scalar(
     alloc: Global,
     lhs: &PrimitiveArray<i128>,
@@ -57,8 +57,8 @@ pub fn div_scalar(
 /// negative where the two numbers differ in sign. The type is that of `lhs`.
 ///
 /// Refused, in this order: `Parameters` exactly where precision or scale differ; `Lengths` exactly
-/// where the arrays differ in length; `DivideByZero` exactly where some valid slots have the
-/// divisor 0.
+/// where the arrays differ in length; `DivideByZero` exactly where some row with two valid slots
+/// has the divisor 0.
 pub fn saturating_div(
     alloc: Global,
     lhs: &PrimitiveArray<i128>,
