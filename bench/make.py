@@ -97,6 +97,8 @@ def main():
     parser.add_argument("--program", default=os.path.join(own, "crates/col_tool/out/col_tool"))
     parser.add_argument("--runs", type=int, default=5)
     given = parser.parse_args()
+    if not os.path.exists(given.program):
+        sys.exit(f"bench: no program at {given.program}")
     differ = 0
     for rows in given.rows:
         words = [given.program, "make", str(rows)]

@@ -1,4 +1,5 @@
-//! Checks of sums of arrays of any type: the type stays, and intervals of several fields are refused.
+//! Checks of sums of arrays of any type: the type stays, and intervals of several fields are
+//! refused.
 use col_array::{AnyArray, AnyScalar};
 use col_flat::PrimitiveArray;
 use col_reduce::{can_sum, sum};

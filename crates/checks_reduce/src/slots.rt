@@ -7,7 +7,7 @@ use std::alloc::Global;
 type Slots = [Option<i8>; 4];
 
 // Slots, their total and their checked sum.
-const TOTALS: [(Slots, Option<i8>, Checked<i8>); 10] = [
+const TOTALS: [(Slots, Option<i8>, Checked<i8>); 12] = [
     (
         [Some(100), Some(100), None, None],
         Some(-56),
@@ -44,6 +44,17 @@ const TOTALS: [(Slots, Option<i8>, Checked<i8>); 10] = [
         Checked::Overflow,
     ),
     ([Some(0), None, Some(0), None], Some(0), Checked::Sum(0)),
+    // arrow2's own vectors
+    (
+        [None, Some(2), Some(3), Some(5)],
+        Some(10),
+        Checked::Sum(10),
+    ),
+    (
+        [Some(2), Some(3), None, Some(5)],
+        Some(10),
+        Checked::Sum(10),
+    ),
 ];
 
 // The total and the checked sum of slots.

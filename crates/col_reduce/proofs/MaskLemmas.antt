@@ -1,7 +1,8 @@
 -- Sums beneath a mask, 64 slots at a time.
-use Rattle.std.proofs.Common.{◌≡◌, ◌≢◌, ℕ, ◌+◌, ◌-◌, ◌*◌, ◌/◌, ◌%◌, ◌^◌, ◌<◌, ◌≤◌, zero, suc, ℤ, pos}
-use Rattle.std.proofs.Common.{◌+ℤ◌, Bool, true, false, List, [], ◌∷◌, ◌++◌, length, map, take}
-use Rattle.std.proofs.Common.{drop, refl, sym, ap, ap₂, ◌∙◌, arith, pow-suc, length-drop, subst, Option, Some}
+use Rattle.std.proofs.Common.{◌≡◌, ◌≢◌, ℕ, ◌+◌, ◌-◌, ◌*◌, ◌/◌, ◌%◌, ◌^◌, ◌<◌, ◌≤◌, zero, suc, ℤ}
+use Rattle.std.proofs.Common.{pos, ◌+ℤ◌, Bool, true, false, List, [], ◌∷◌, ◌++◌, length, map, take}
+use Rattle.std.proofs.Common.{drop, refl, sym, ap, ap₂, ◌∙◌, arith, pow-suc, length-drop, subst}
+use Rattle.std.proofs.Common.{Option, Some}
 use Rattle.std.specs.Prelude.{◌==◌, ◌||◌}
 use Rattle.std.proofs.lemmas.Int.{ints}
 use Rattle.std.proofs.lemmas.List.{drop-drop, length-map, length-take}

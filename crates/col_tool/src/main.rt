@@ -1,4 +1,4 @@
-//! Evaluates the trees of a JSON document over its columns.
+//! Evaluates or sums the trees of a JSON document over its columns, or sums a table that it makes.
 #![tactic(auto)]
 
 use col_run::{ReadSource, Status, WriteSink, run, status_text};

@@ -1,4 +1,5 @@
-use Rattle.std.proofs.Common.{◌≡◌, ◌-◌, ◌*◌, ◌≤◌, ◌∙◌, ap, arith, drop, length, length-drop, min, take}
+use Rattle.std.proofs.Common.{◌≡◌, ◌-◌, ◌*◌, ◌≤◌, ◌∙◌, ap, arith, drop, length, length-drop}
+use Rattle.std.proofs.Common.{min, take}
 use Rattle.std.proofs.lemmas.List.{take-take, take_min}
 use Rattle.col_reduce.proofs.aggregate.masked.chunk_of.Goals as goal
 

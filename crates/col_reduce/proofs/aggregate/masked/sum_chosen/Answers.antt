@@ -10,7 +10,8 @@ loop-value-preserved g c =
     let within : c.loop-value.value-index < length c.args.values.now = omega arith in
     IsSoFar-more _ _ _ c.loop-value.invariant
     (ap (λ (xs : List g.row.T.Denot). chosen_sum (map g.T.NativeWhole.value xs) c.loop-value.left)
-    (drop-next c.args.values.now c.loop-value.value-index c.value-item.result within c.value-item.is))
+    (drop-next c.args.values.now c.loop-value.value-index c.value-item.result within
+    c.value-item.is))
     (c.add_modulo-total.ensures
     ∙ ap (λ (n : ℤ). wrapped_number g.T.NativeWhole.whole_type
     (g.T.NativeWhole.value c.loop-value.total +ℤ n)) c.value_or_zero.ensures)

@@ -9,5 +9,6 @@ loop-value-preserved g c =
     let within : c.loop-value.value-index < length c.args.values.now = omega arith in
     IsSoFar-more (g.T.NativeWhole.value c.value-item.result) _ _ c.loop-value.invariant
     (ap (λ (xs : List g.row.T.Denot). exact_sum (map g.T.NativeWhole.value xs))
-    (drop-next c.args.values.now c.loop-value.value-index c.value-item.result within c.value-item.is))
+    (drop-next c.args.values.now c.loop-value.value-index c.value-item.result within
+    c.value-item.is))
     c.add_modulo-total.ensures
