@@ -40,7 +40,11 @@ fn array_8(alloc: Global, data_type: DataType, slots: Slots<i8>) -> Result<AnyAr
     Ok(AnyArray::Int8(array))
 }
 
-fn array_32(alloc: Global, data_type: DataType, slots: Slots<i32>) -> Result<AnyArray, Error> {
+pub(crate) fn array_32(
+    alloc: Global,
+    data_type: DataType,
+    slots: Slots<i32>,
+) -> Result<AnyArray, Error> {
     let array = PrimitiveArray::from_options(alloc, data_type, slots)?;
     Ok(AnyArray::Int32(array))
 }

@@ -1,7 +1,11 @@
 //! The parts of days, as dates and as instants at midnight.
 use crate::answers::{Answer, PARTS, Part};
-use crate::columns::{Kind, answer_on, first_not, first_wrong};
-use col_types::TimeUnit;
+use crate::columns::{Kind, answer_on, array_32, first_not, first_wrong};
+use col_array::AnyArray;
+use col_calendar::weekday;
+use col_flat::PrimitiveArray;
+use col_types::{DataType, Error, TimeUnit};
+use std::alloc::Global;
 
 // The first and the last day, and the parts of their midnights. The calendar of -9999 is that of
 // the year 1, 25 times 400 years later; the others are Python's `datetime`'s.
@@ -98,4 +102,33 @@ fn a_null_stays(rt: HostRuntime) {
         answer_on(rt.alloc(), Part::Weekday, Some(18_628)),
         Answer::Is(5)
     );
+}
+
+type Numbers = Result<PrimitiveArray<u32>, Error>;
+
+// Whether both were made, with one type and the same slots.
+fn are_equal(made: Numbers, wanted: Numbers) -> bool {
+    match (made, wanted) {
+        (Ok(made), Ok(wanted)) => made.equal(&wanted),
+        _ => false,
+    }
+}
+
+fn are_weekdays(alloc: Global, days: AnyArray, wanted: Numbers) -> bool {
+    are_equal(weekday(alloc, &days), wanted)
+}
+
+// Whether days have these weekdays, and a null at each null.
+fn have_weekdays(alloc: Global, days: &[Option<i32>], wanted: &[Option<u32>]) -> bool {
+    let wanted = PrimitiveArray::from_options(alloc, DataType::UInt32, wanted);
+    match array_32(alloc, DataType::Date32, days) {
+        Ok(days) => are_weekdays(alloc, days, wanted),
+        Err(_) => false,
+    }
+}
+
+#[test]
+fn a_null_stays_between_numbers(rt: HostRuntime) {
+    let days = [Some(0), None, Some(18_628)];
+    assert!(rt; have_weekdays(rt.alloc(), &days, &[Some(4), None, Some(5)]));
 }

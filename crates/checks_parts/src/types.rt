@@ -5,28 +5,27 @@ use col_calendar::{
     can_day, can_hour, can_iso_week, can_minute, can_month, can_nanosecond, can_second,
     can_weekday, can_year,
 };
-use col_types::TimeUnit;
+use col_types::{DataType, TimeUnit};
 
 // Whether columns of a type have a part.
-fn can(part: Part, kind: Kind) -> bool {
-    let data_type = data_type(kind);
+fn can(part: Part, data_type: &DataType) -> bool {
     match part {
-        Part::Year => can_year(&data_type),
-        Part::Month => can_month(&data_type),
-        Part::Day => can_day(&data_type),
-        Part::Weekday => can_weekday(&data_type),
-        Part::Week => can_iso_week(&data_type),
-        Part::Hour => can_hour(&data_type),
-        Part::Minute => can_minute(&data_type),
-        Part::Second => can_second(&data_type),
-        Part::Nanosecond => can_nanosecond(&data_type),
+        Part::Year => can_year(data_type),
+        Part::Month => can_month(data_type),
+        Part::Day => can_day(data_type),
+        Part::Weekday => can_weekday(data_type),
+        Part::Week => can_iso_week(data_type),
+        Part::Hour => can_hour(data_type),
+        Part::Minute => can_minute(data_type),
+        Part::Second => can_second(data_type),
+        Part::Nanosecond => can_nanosecond(data_type),
     }
 }
 
 // The first part whose test is not as wanted.
 fn first_other(parts: &[Part], kind: Kind, wanted: bool) -> Option<Part> {
     for part in parts {
-        if can(*part, kind) != wanted {
+        if can(*part, &data_type(kind)) != wanted {
             return Some(*part);
         }
     }
