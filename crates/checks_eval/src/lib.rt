@@ -2,8 +2,6 @@
 #![tactic(auto)]
 
 #[cfg(test)]
-mod decimals;
-#[cfg(test)]
 mod eval;
 #[cfg(test)]
 mod steps;
