@@ -16,7 +16,8 @@ use Rattle.std.proofs.lemmas.Str.Parse.{without_leading_plus_none}
 use Rattle.std.proofs.lemmas.Nat.{pow_pos}
 use mir.Val.{SFits, bits, hbits}
 use Rattle.col_model.specs.Whole.{signed, unsigned, is_fitting}
-use Rattle.col_document.specs.Document.{is_digits, is_shortest, number_read, position_named}
+use Rattle.col_document.specs.Document.{count_named, is_digits, is_shortest, number_read}
+use Rattle.col_document.specs.Document.{position_named}
 use Rattle.col_document.proofs.ListLemmas.{option_map-same, option_map-tested}
 
 -- what `ok` gives of an answer whose condition is tested
@@ -46,7 +47,7 @@ size_negsuc zero n h = absurd (omega arith)
 size_negsuc (suc k) n h = (λ e. grind (arith, nat_tests), λ f. grind (arith, nat_tests))
 
 -- a number of a type with a sign fits where its size says so
-Decides-is_fitting : (w : Width) (z : ℤ) → Decides (is_fitting (signed w) z) (SFits w z)
+pub Decides-is_fitting : (w : Width) (z : ℤ) → Decides (is_fitting (signed w) z) (SFits w z)
 Decides-is_fitting w (pos n) =
     let own = size_pos (2 ^ hbits w) n (pow_pos (hbits w)) in
     (λ e. record { sfits = own.0 e }, λ f. own.1 f.sfits)
@@ -55,7 +56,7 @@ Decides-is_fitting w (negsuc n) =
     (λ e. record { sfits = own.0 e }, λ f. own.1 f.sfits)
 
 -- a number of a type without a sign fits where it is below 2 ^ w
-is_fitting-below : (w : Width) (n : ℕ)
+pub is_fitting-below : (w : Width) (n : ℕ)
     → is_fitting (unsigned w) (pos n) ≡ nat_lt n (2 ^ bits w)
 is_fitting-below w n =
     let some = pow_pos (bits w) in
@@ -144,8 +145,7 @@ last_of_and false false z e = absurd (false≢true e)
 -- what `parse` answers for such a text
 pub shortest-parsed : {E : Type 0} (text : List ℕ) (r : Result ℕ E) → begins_shortest text ≡ true
     → ParsesUnsigned 32 10 text r
-    → result_ok r ≡ cond (is_shortest text && nat_lt (digits_value 10 text) (2 ^ 32))
-    (Some (digits_value 10 text)) None
+    → result_ok r ≡ count_named text
 shortest-parsed text r begins h =
     let plain : without_leading_plus text ≡ text = without_leading_plus_none text
     (grind (arith, nat_tests)) in

@@ -44,13 +44,18 @@ number_read t text =
 abbrev pub is_shortest : List ℕ → Bool
 is_shortest digits = is_digits digits && (length digits == 1 || not (slice_index digits 0 == 48))
 
--- the position that a column's name tells: `c`, then a number below 2 ^ 32
-abbrev pub position_named : List ℕ → Option ℕ
-position_named [] = None
-position_named (c ∷ digits) =
-    if c == 99 && is_shortest digits && nat_lt (digits_value 10 digits) (2 ^ 32)
+-- the count that digits name, none of them a zero in front of others: a number below 2 ^ 32. `0` is
+-- 0, and `00`, `+1` and `4294967296` name none
+abbrev pub count_named : List ℕ → Option ℕ
+count_named digits =
+    if is_shortest digits && nat_lt (digits_value 10 digits) (2 ^ 32)
     then Some (digits_value 10 digits)
     else None
+
+-- the position that a column's name tells: `c`, then a count
+abbrev pub position_named : List ℕ → Option ℕ
+position_named [] = None
+position_named (c ∷ digits) = if c == 99 then count_named digits else None
 
 -- the step of a name
 abbrev pub step_named : List ℕ → Option Op

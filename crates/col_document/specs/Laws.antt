@@ -9,8 +9,8 @@ use Rattle.col_eval.specs.Typing.{max_levels}
 use Rattle.col_eval.specs.declared.expr.Op.{Op}
 use Rattle.col_document.specs.Document.{Piece, leaf, named, only_tree, piece_read, position_named}
 use Rattle.col_types.specs.CellOf.{is_typed_column}
-use Rattle.col_document.specs.Document.{DocumentView, document_of, step_named, tree_read}
-use Rattle.col_document.specs.Document.{with_pieces}
+use Rattle.col_document.specs.Document.{DocumentView, count_named, document_of, step_named}
+use Rattle.col_document.specs.Document.{tree_read, with_pieces}
 use Rattle.col_document.specs.StepText.{step_text}
 use Rattle.col_document.specs.Json.{◌>>=◌, each}
 
@@ -37,6 +37,11 @@ abbrev pub IsReadFromItsSpelling : Type 0
 IsReadFromItsSpelling = (items : Items) (t : Tree) →
     (tree_read (array items) ≡ Some t)
     ↔ ((each piece_read items ≡ Some (spelling t)) × (level_count t ≤ max_levels))
+
+-- digits name a count exactly where they are its text, and it lies below 2 ^ 32
+abbrev pub NamesItsCount : Type 0
+NamesItsCount = (digits : List ℕ) (n : ℕ) →
+    (count_named digits ≡ Some n) ↔ ((digits ≡ decimal n) × (n < 2 ^ 32))
 
 -- a text names a position below 2 ^ 32 exactly where it is `c` and the position's digits
 abbrev pub NamesItsPosition : Type 0

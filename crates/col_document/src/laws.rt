@@ -1,7 +1,7 @@
 //! What holds of the definitions, as facts of their own.
 ghost use Rattle.col_document.specs.Laws.{DocumentHoldsItsCells, IsReadFromItsSpelling};
-ghost use Rattle.col_document.specs.Laws.{IsSpelledInOneWay};
-ghost use Rattle.col_document.specs.Laws.{NamesItsPosition, NamesItsStep};
+ghost use Rattle.col_document.specs.Laws.{IsSpelledInOneWay, NamesItsCount, NamesItsPosition};
+ghost use Rattle.col_document.specs.Laws.{NamesItsStep};
 
 /// A list of items leaves a tree exactly where it is the tree's spelling in postfix order, and the
 /// tree has at most 256 levels.
@@ -13,6 +13,11 @@ pub fn a_tree_is_spelled_in_one_way()
 /// at most 256 levels.
 pub fn a_tree_is_read_from_its_spelling()
     ensures { IsReadFromItsSpelling }
+{}
+
+/// A text names a count exactly where it is the count's digits, and the count lies below 2^32.
+pub fn a_count_is_its_digits()
+    ensures { NamesItsCount }
 {}
 
 /// A column's name tells a position exactly where it is `c` and the position's digits.

@@ -10,3 +10,4 @@ mod texts;
 mod trees;
 
 pub use document::{Document, ReadError, read_document};
+pub use texts::read_count;

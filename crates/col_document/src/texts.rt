@@ -1,22 +1,19 @@
 //! What the texts of a document name.
-ghost use Rattle.std.specs.Prelude.{◌≡◌, ◌&&◌, ◌||◌, ◌==◌, ◌^◌, Some, None};
-ghost use Rattle.std.specs.Prelude.{IfSome, IsSome, if◌then◌else◌, length, nat_lt, not};
-ghost use Rattle.std.specs.Prelude.{option_map, slice_index};
-ghost use Rattle.std.specs.Str.Parse.{digits_value};
+ghost use Rattle.std.specs.Prelude.{◌≡◌, ◌&&◌, ◌||◌, ◌==◌, IfSome, IsSome, length, not, option_map};
+ghost use Rattle.std.specs.Prelude.{slice_index};
 ghost use Rattle.col_types.specs.DataKind.{kind_of};
 ghost use Rattle.col_types.specs.DataType.{whole_type_of};
-ghost use Rattle.col_document.specs.Document.{is_shortest, number_read, position_named};
-ghost use Rattle.col_document.specs.Document.{step_named, type_named};
+ghost use Rattle.col_document.specs.Document.{count_named, position_named, step_named, type_named};
 
 use col_eval::Op;
 use col_types::DataType;
 
-/// The position that a column's name tells: `c`, then a number below 2^32 without a zero in front.
+/// The position that a column's name tells: `c`, then a count.
 pub fn read_position(text: &str) -> Option<u32>
     ensures { result ≡ position_named text.now }
 {
     match text.strip_prefix('c') {
-        Some(digits) => read_shortest(digits),
+        Some(digits) => read_count(digits),
         None => None,
     }
 }
@@ -64,10 +61,10 @@ pub fn read_type_name(text: &str) -> Option<DataType>
     }
 }
 
-// The number below 2^32 that digits spell which have no zero in front of others.
-fn read_shortest(digits: &str) -> Option<u32>
-    ensures { result ≡ (if is_shortest digits.now && nat_lt (digits_value 10 digits.now) (2 ^ 32)
-        then Some (digits_value 10 digits.now) else None) }
+/// The count that digits name: a number below 2^32 without a zero in front. `None` where the text has
+/// anything but digits, a zero in front of others, or a greater number.
+pub fn read_count(digits: &str) -> Option<u32>
+    ensures { result ≡ count_named digits.now }
 {
     if begins_shortest(digits) {
         digits.parse::<u32>().ok()

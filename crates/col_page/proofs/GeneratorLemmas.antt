@@ -1,14 +1,13 @@
 -- The rows of a made table, and that no tree over it refuses one.
-use Rattle.std.proofs.Common.{◌≡◌, ℕ, ◌+◌, ◌-◌, ◌/◌, ◌^◌, ◌<◌, Bool, true, false, ◌&&◌, List, []}
+use Rattle.std.proofs.Common.{◌≡◌, ℕ, ◌+◌, ◌-◌, ◌/◌, ◌^◌, ◌<◌, Bool, true, false, List, []}
 use Rattle.std.proofs.Common.{◌∷◌, ◌++◌, map, Option, Some, None, Result, Ok, Err, ℤ, pos, negsuc}
-use Rattle.std.proofs.Common.{refl, sym, inl, inr, arith, zero-add, zero, suc, Decides, lit<, rules}
-use Rattle.std.specs.Prelude.{is_err, IsOk, slice_index_or, int_div, option_map, int_le, neg_ℤ}
+use Rattle.std.proofs.Common.{refl, sym, ◌∙◌, inl, inr, arith, zero-add, lit<, rules}
+use Rattle.std.specs.Prelude.{is_err, IsOk, slice_index_or, int_div, option_map}
 use Rattle.std.specs.Int.{Width, w64}
 use Rattle.std.specs.List.{range_with_len}
-use Rattle.std.proofs.lemmas.Bool.Decides.{nat_tests}
+use Rattle.std.proofs.lemmas.Bool.Decides.{Decides-ltb}
 use Rattle.std.proofs.lemmas.Int.{ints, quot_fits}
-use Rattle.std.proofs.lemmas.Nat.{pow_pos}
-use mir.Val.{SFits, bits, hbits}
+use mir.Val.{bits}
 use Rattle.std.proofs.lemmas.List.{map-append}
 use Rattle.std.proofs.lemmas.List.FromFn.{get_or-map-range_with_len, map-range_with_len_more}
 use Rattle.std.proofs.lemmas.List.FromFn.{length-map-range_with_len}
@@ -33,6 +32,7 @@ use Rattle.col_eval.specs.Typing.{typing_of}
 use Rattle.col_eval.specs.Meaning.{cell, row_meaning, RowsAnswer, all_cells, refusal, rows_meaning}
 use Rattle.col_eval.specs.Meaning.{typed_rows}
 use Rattle.col_eval.proofs.RowLemmas.{unrefused_column}
+use Rattle.col_document.proofs.NumberTextLemmas.{Decides-is_fitting, is_fitting-below}
 use Rattle.col_page.specs.Generator.{first_cell, second_cell, third_cell, made_table, made_trees}
 use Rattle.col_page.specs.Generator.{made_document, number_cell}
 use Rattle.col_page.specs.Page.{HasLines}
@@ -76,33 +76,6 @@ made_row n row h =
     rw (made_cell first_cell n row h, made_cell second_cell n row h, made_cell third_cell n row h)
     refl
 
--- a number from -m to m - 1 is one whose size says so
-size_pos : (m n : ℕ) → 0 < m
-    → Decides (int_le (neg_ℤ (pos m)) (pos n) && int_le (pos n) (pos (m - 1))) (n < m)
-size_pos zero n h = absurd (omega arith)
-size_pos (suc k) n h = (λ e. grind (arith, nat_tests), λ f. grind (arith, nat_tests))
-
--- the same of a negative number
-size_negsuc : (m n : ℕ) → 0 < m
-    → Decides (int_le (neg_ℤ (pos m)) (negsuc n) && int_le (negsuc n) (pos (m - 1))) (n < m)
-size_negsuc zero n h = absurd (omega arith)
-size_negsuc (suc k) n h = (λ e. grind (arith, nat_tests), λ f. grind (arith, nat_tests))
-
--- a number of a type with a sign fits where its size says so
-Decides-is_fitting : (w : Width) (z : ℤ) → Decides (is_fitting (signed w) z) (SFits w z)
-Decides-is_fitting w (pos n) =
-    let own = size_pos (2 ^ hbits w) n (pow_pos (hbits w)) in
-    (λ e. record { sfits = own.0 e }, λ f. own.1 f.sfits)
-Decides-is_fitting w (negsuc n) =
-    let own = size_negsuc (2 ^ hbits w) n (pow_pos (hbits w)) in
-    (λ e. record { sfits = own.0 e }, λ f. own.1 f.sfits)
-
--- a number of a type without a sign fits where it is below 2 ^ w
-is_fitting-below : (w : Width) (n : ℕ) → n < 2 ^ bits w → is_fitting (unsigned w) (pos n) ≡ true
-is_fitting-below w n h =
-    let some = pow_pos (bits w) in
-    grind (arith, nat_tests)
-
 -- a quotient of a number of a type with a sign by one above 0 is one of the type
 quotient-fits : (w : Width) (n : ℤ) (k : ℕ) → is_fitting (signed w) n ≡ true → 0 < k
     → is_fitting (signed w) (int_div n (pos k)) ≡ true
@@ -113,7 +86,7 @@ quotient-fits w n k e h =
 
 -- so it is where neither has a sign
 third-fits : (w : Width) (n : ℕ) → n < 2 ^ bits w → is_fitting (unsigned w) (pos (n / 3)) ≡ true
-third-fits w n h = is_fitting-below w (n / 3) (omega arith)
+third-fits w n h = is_fitting-below w (n / 3) ∙ (Decides-ltb (n / 3) (2 ^ bits w)).1 (omega arith)
 
 -- a hundredth of a null, or of a number of 64 bits with a sign, is a cell
 hundredth : (p : Cell) → IsNullOrFits (signed w64) p

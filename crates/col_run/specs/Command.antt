@@ -1,11 +1,11 @@
 -- Commands: the words that name one, and what it writes.
-use Rattle.std.specs.Prelude.{ℕ, Bool, true, false, ◌&&◌, List, [], ◌∷◌, codes, Option, Some, None}
+use Rattle.std.specs.Prelude.{ℕ, Bool, true, false, List, [], ◌∷◌, codes, Option, Some, None}
 use Rattle.std.specs.Prelude.{if◌then◌else◌, String, string_bytes, ⊤}
 use Rattle.std.specs.declared.alloc.Global.{Global}
 use Rattle.std.specs.Option.{option_map}
 use Rattle.std.specs.Str.{bytes_eq}
-use Rattle.std.specs.Str.Parse.{digits_value}
-use Rattle.col_document.specs.Document.{DocumentView, document_of, is_shortest}
+use Rattle.col_document.specs.Document.{DocumentView, count_named, document_of}
+use Rattle.col_document.specs.Json.{◌>>=◌}
 use Rattle.col_page.specs.Page.{has_error_line, page_text}
 use Rattle.col_page.specs.PageView.{PageView}
 use Rattle.col_page.specs.Generator.{IsRowCount, is_row_count, summary_text}
@@ -13,13 +13,10 @@ use Rattle.col_page.specs.Sums.{has_error_sum, sums_text}
 use Rattle.col_run.specs.declared.words.Command.{Command}
 use Rattle.col_run.specs.declared.words.Command.TheVariants.{Eval, Make, Sum}
 
--- the number of rows that a word names: digits without a zero in front, of 1 to 1000000. `64` is
--- 64, and `0`, `064` and `+64` are none
+-- the number of rows that a word names: a count from 1 to 1000000. `64` is 64, and `0`, `064` and
+-- `+64` are none
 abbrev pub rows_named : List ℕ → Option ℕ
-rows_named word =
-    if is_shortest word && is_row_count (digits_value 10 word)
-    then Some (digits_value 10 word)
-    else None
+rows_named word = count_named word >>= (λ n. if is_row_count n then Some n else None)
 
 -- the command that a single word names
 abbrev pub lone_command : List ℕ → Option Command

@@ -1,12 +1,10 @@
 //! What the words of a command line ask for.
-ghost use Rattle.std.specs.Prelude.{◌≡◌, ◌&&◌, ◌||◌, ◌==◌, ◌^◌, Some, None, IfSome};
-ghost use Rattle.std.specs.Prelude.{if◌then◌else◌, length, nat_lt, not, slice_index};
-ghost use Rattle.std.specs.Str.Parse.{digits_value};
-ghost use Rattle.col_document.specs.Document.{is_shortest};
+ghost use Rattle.std.specs.Prelude.{◌≡◌, IfSome};
 ghost use Rattle.col_page.specs.Generator.{IsRowCount};
 ghost use Rattle.col_run.specs.Command.{IsAsked, command_of, lone_command, pair_command};
 ghost use Rattle.col_run.specs.Command.{reads_source, rows_named};
 
+use col_document::read_count;
 use col_page::can_make;
 
 /// A command of the program.
@@ -75,31 +73,8 @@ fn read_rows(word: &str) -> Option<u32>
     ensures value { result ≡ rows_named word.now }
     ensures bound { IfSome result IsRowCount }
 {
-    match read_shortest(word) {
+    match read_count(word) {
         Some(n) if can_make(n) => Some(n),
         _ => None,
-    }
-}
-
-// The number below 2^32 that digits spell which have no zero in front of others.
-fn read_shortest(digits: &str) -> Option<u32>
-    ensures { result ≡ (if is_shortest digits.now && nat_lt (digits_value 10 digits.now) (2 ^ 32)
-        then Some (digits_value 10 digits.now) else None) }
-{
-    if begins_shortest(digits) {
-        digits.parse::<u32>().ok()
-    } else {
-        None
-    }
-}
-
-// Whether a text begins neither with a sign nor with a zero in front of others.
-fn begins_shortest(text: &str) -> bool
-    ensures { result ≡ (not (slice_index text.now 0 == 43)
-        && (length text.now == 1 || not (slice_index text.now 0 == 48))) }
-{
-    match text.as_bytes() {
-        [b'+', ..] | [b'0', _, ..] => false,
-        _ => true,
     }
 }

@@ -1,6 +1,6 @@
 use Rattle.std.proofs.Common.{◌∙◌, sym}
 use Rattle.col_document.proofs.NumberTextLemmas.{shortest-parsed}
-use Rattle.col_document.proofs.texts.read_shortest.Goals as goal
+use Rattle.col_document.proofs.texts.read_count.Goals as goal
 
 pub returns-then-begins_shortest : goal.returns-then-begins_shortest
 returns-then-begins_shortest c =
