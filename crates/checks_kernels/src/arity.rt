@@ -12,17 +12,12 @@ type Numbers = PrimitiveArray<i64>;
 
 type Slots<'a> = &'a [Option<i64>];
 
-const LENGTHS: Error = Error::InvalidArgumentError(Reason::Lengths);
-
-fn array_of(alloc: Global, slots: Slots) -> Result<Numbers, Error> {
-    PrimitiveArray::from_options(alloc, DataType::Int64, slots)
-}
-
-// Whether the call answered these slots, with a mask where a slot is null alone.
-fn answers(alloc: Global, answer: Result<Numbers, Error>, wanted: Slots) -> Result<bool, Error> {
-    let array = answer?;
-    let is_masked = array.validity().is_some();
-    Ok(is_masked == (array.null_count() > 0) && array.equal(&array_of(alloc, wanted)?))
+// The kernels whose answer is one array.
+#[derive(Clone, Copy, Debug)]
+enum Call {
+    Plain,
+    Checked,
+    Fallible,
 }
 
 // The number twice.
@@ -60,47 +55,26 @@ fn sum_or_refused(a: i64, b: i64) -> Result<i64, Error> {
     Ok(sum(a, b))
 }
 
-// Each call on one array, whose doubled slots are these, and null where they are not positive.
-fn each_of_one(
-    alloc: Global,
-    array: &Numbers,
-    doubles: Slots,
-    positives: Slots,
-) -> Result<[bool; 3], Error> {
-    let plain = unary(alloc, array, doubled, DataType::Int64);
-    let is_plain = answers(alloc, plain, doubles)?;
-    let checked = unary_checked(alloc, array, doubled_positive, DataType::Int64);
-    let is_checked = answers(alloc, checked, positives)?;
-    let fallible = try_unary(alloc, array, doubled_or_refused, DataType::Int64);
-    Ok([is_plain, is_checked, answers(alloc, fallible, doubles)?])
+// The doubled slots.
+fn of_one(alloc: Global, call: Call, array: &Numbers) -> Result<Numbers, Error> {
+    match call {
+        Call::Plain => unary(alloc, array, doubled, DataType::Int64),
+        Call::Checked => unary_checked(alloc, array, doubled_positive, DataType::Int64),
+        Call::Fallible => try_unary(alloc, array, doubled_or_refused, DataType::Int64),
+    }
 }
 
-// Each call on an array and itself, whose sums are these, and null where they are not positive.
-fn each_of_two(
-    alloc: Global,
-    array: &Numbers,
-    sums: Slots,
-    positives: Slots,
-) -> Result<[bool; 3], Error> {
-    let plain = binary(alloc, array, array, DataType::Int64, sum);
-    let is_plain = answers(alloc, plain, sums)?;
-    let checked = binary_checked(alloc, array, array, DataType::Int64, positive_sum);
-    let is_checked = answers(alloc, checked, positives)?;
-    let fallible = try_binary(alloc, array, array, DataType::Int64, sum_or_refused);
-    Ok([is_plain, is_checked, answers(alloc, fallible, sums)?])
+// The summed slots.
+fn of_two(alloc: Global, call: Call, lhs: &Numbers, rhs: &Numbers) -> Result<Numbers, Error> {
+    match call {
+        Call::Plain => binary(alloc, lhs, rhs, DataType::Int64, sum),
+        Call::Checked => binary_checked(alloc, lhs, rhs, DataType::Int64, positive_sum),
+        Call::Fallible => try_binary(alloc, lhs, rhs, DataType::Int64, sum_or_refused),
+    }
 }
 
-#[test]
-fn each_call_of_col_arity_answers_with_ample_memory(rt: HostRuntime) -> Result<(), Error> {
-    let alloc = rt.alloc();
-    let array = array_of(alloc, &[Some(3), None, Some(-3)])?;
-    let doubles = [Some(6), None, Some(-6)];
-    let positives = [Some(6), None, None];
-    let one = each_of_one(alloc, &array, &doubles, &positives)?;
-    assert_eq!(rt; one, [true; 3], "plain, checked and fallible of one array");
-    let two = each_of_two(alloc, &array, &doubles, &positives)?;
-    assert_eq!(rt; two, [true; 3], "plain, checked and fallible of two arrays");
-    Ok(())
+fn array_of(alloc: Global, slots: Slots) -> Result<Numbers, Error> {
+    PrimitiveArray::from_options(alloc, DataType::Int64, slots)
 }
 
 // The values beneath a mask whose flags are all true.
@@ -112,27 +86,81 @@ fn all_valid(alloc: Global, values: &[i64]) -> Result<Numbers, Error> {
     PrimitiveArray::try_new(DataType::Int64, buffer, Some(mask))
 }
 
+fn has_slots(alloc: Global, array: &Numbers, slots: Slots) -> bool {
+    match array_of(alloc, slots) {
+        Ok(wanted) => array.equal(&wanted),
+        Err(_) => false,
+    }
+}
+
+// Whether a call answered these slots, with a mask where a slot is null alone.
+fn answers(alloc: Global, answer: Result<Numbers, Error>, slots: Slots) -> bool {
+    match answer {
+        Ok(array) => {
+            let is_masked = array.validity().is_some();
+            is_masked == (array.null_count() > 0) && has_slots(alloc, &array, slots)
+        }
+        Err(_) => false,
+    }
+}
+
+// Whether a call on an array that was made, and the same on it and itself, answer these slots.
+fn both_answer(alloc: Global, call: Call, made: Result<Numbers, Error>, slots: Slots) -> [bool; 2] {
+    match made {
+        Ok(array) => {
+            let one = answers(alloc, of_one(alloc, call, &array), slots);
+            [
+                one,
+                answers(alloc, of_two(alloc, call, &array, &array), slots),
+            ]
+        }
+        Err(_) => [false; 2],
+    }
+}
+
 #[test]
-fn where_no_slot_is_null_there_is_no_mask(rt: HostRuntime) -> Result<(), Error> {
+fn each_call_of_col_arity_answers_with_ample_memory(rt: HostRuntime) {
+    let cases = [
+        (Call::Plain, [Some(6), None, Some(-6)]),
+        (Call::Checked, [Some(6), None, None]),
+        (Call::Fallible, [Some(6), None, Some(-6)]),
+    ];
+    for (call, wanted) in cases {
+        let made = array_of(rt.alloc(), &[Some(3), None, Some(-3)]);
+        assert_eq!(rt;
+            both_answer(rt.alloc(), call, made, &wanted),
+            [true; 2],
+            "{call:?}"
+        );
+    }
+}
+
+#[test]
+fn where_no_slot_is_null_there_is_no_mask(rt: HostRuntime) {
     let doubles = [Some(6), Some(8)];
-    let array = all_valid(rt.alloc(), &[3, 4])?;
-    let one = each_of_one(rt.alloc(), &array, &doubles, &doubles)?;
-    assert_eq!(rt; one, [true; 3], "one array beneath a mask of true flags");
-    let two = each_of_two(rt.alloc(), &array, &doubles, &doubles)?;
-    assert_eq!(rt; two, [true; 3], "two arrays beneath masks of true flags");
-    Ok(())
+    for call in [Call::Plain, Call::Checked, Call::Fallible] {
+        let made = all_valid(rt.alloc(), &[3, 4]);
+        assert_eq!(rt;
+            both_answer(rt.alloc(), call, made, &doubles),
+            [true; 2],
+            "{call:?}"
+        );
+    }
 }
 
-// The refusals of calls that may refuse a row.
-fn refusals_of(alloc: Global, slots: Slots) -> Result<[Option<Error>; 2], Error> {
-    let array = array_of(alloc, slots)?;
-    let one = try_unary(alloc, &array, doubled_or_refused, DataType::Int64);
-    let two = try_binary(alloc, &array, &array, DataType::Int64, sum_or_refused);
-    Ok([one.err(), two.err()])
+// The refusals of the fallible calls on an array, and on it and itself.
+fn refusals_of(alloc: Global, slots: Slots) -> [Option<Error>; 2] {
+    match array_of(alloc, slots) {
+        Ok(array) => {
+            let one = of_one(alloc, Call::Fallible, &array).err();
+            [one, of_two(alloc, Call::Fallible, &array, &array).err()]
+        }
+        Err(error) => [Some(error); 2],
+    }
 }
 
 #[test]
-fn the_least_valid_row_that_refuses_gives_the_error(rt: HostRuntime) -> Result<(), Error> {
+fn the_least_valid_row_that_refuses_gives_the_error(rt: HostRuntime) {
     let cases = [
         ([Some(0), Some(1), Some(2)], Some(Error::Overflow)),
         ([Some(2), Some(1), None], Some(Error::DivideByZero)),
@@ -140,10 +168,8 @@ fn the_least_valid_row_that_refuses_gives_the_error(rt: HostRuntime) -> Result<(
         ([Some(0), None, None], None),
     ];
     for (slots, wanted) in cases {
-        let refusals = refusals_of(rt.alloc(), &slots)?;
-        assert_eq!(rt; refusals, [wanted; 2], "{slots:?}");
+        assert_eq!(rt; refusals_of(rt.alloc(), &slots), [wanted; 2], "{slots:?}");
     }
-    Ok(())
 }
 
 // The number, and whether it is above -2.
@@ -156,79 +182,87 @@ fn first_flagged(a: i64, _b: i64) -> (i64, bool) {
     flagged(a)
 }
 
-// Whether the flags are these.
-fn has_flags(flags: &Bitmap, wanted: &[bool; 2]) -> bool {
-    flags.len() == 2 && flags.get_bit(0) == wanted[0] && flags.get_bit(1) == wanted[1]
+// The two flags of an answer that keeps the slots of an array.
+fn flags_of(array: &Numbers, answer: Result<(Numbers, Bitmap), Error>) -> Option<[bool; 2]> {
+    match answer {
+        Ok((kept, flags)) if flags.len() == 2 && kept.equal(array) => {
+            Some([flags.get_bit(0), flags.get_bit(1)])
+        }
+        _ => None,
+    }
 }
 
-// Whether the call on one array keeps its slots and answers these flags.
-fn is_one_flagged(alloc: Global, array: &Numbers, wanted: &[bool; 2]) -> Result<bool, Error> {
-    let (kept, flags) = unary_with_bitmap(alloc, array, flagged, DataType::Int64)?;
-    Ok(kept.equal(array) && has_flags(&flags, wanted))
-}
-
-// Whether the call on two arrays keeps the slots of the first and answers these flags.
-fn is_first_flagged(alloc: Global, array: &Numbers, wanted: &[bool; 2]) -> Result<bool, Error> {
-    let (kept, flags) = binary_with_bitmap(alloc, array, array, DataType::Int64, first_flagged)?;
-    Ok(kept.equal(array) && has_flags(&flags, wanted))
+// The flags of the call on an array, and of the call on it and itself.
+fn both_flags(alloc: Global, slots: Slots) -> [Option<[bool; 2]>; 2] {
+    match array_of(alloc, slots) {
+        Ok(array) => {
+            let one = unary_with_bitmap(alloc, &array, flagged, DataType::Int64);
+            let one = flags_of(&array, one);
+            let two = binary_with_bitmap(alloc, &array, &array, DataType::Int64, first_flagged);
+            [one, flags_of(&array, two)]
+        }
+        Err(_) => [None; 2],
+    }
 }
 
 #[test]
-fn a_null_has_a_false_flag(rt: HostRuntime) -> Result<(), Error> {
+fn a_null_has_a_false_flag(rt: HostRuntime) {
     let cases = [
         ([Some(1), None], [true, false]),
         ([Some(-2), Some(1)], [false, true]),
         ([None, None], [false, false]),
     ];
-    for (slots, wanted) in cases {
-        let array = array_of(rt.alloc(), &slots)?;
-        assert!(rt;
-            is_one_flagged(rt.alloc(), &array, &wanted)?,
-            "one array, {slots:?}"
-        );
-        assert!(rt;
-            is_first_flagged(rt.alloc(), &array, &wanted)?,
-            "two arrays, {slots:?}"
+    for (slots, flags) in cases {
+        assert_eq!(rt;
+            both_flags(rt.alloc(), &slots),
+            [Some(flags); 2],
+            "{slots:?}"
         );
     }
-    Ok(())
 }
 
-// Whether the array has these slots.
-fn has_slots(alloc: Global, array: &Numbers, wanted: Slots) -> Result<bool, Error> {
-    Ok(array.equal(&array_of(alloc, wanted)?))
-}
-
-// Whether a call in place gives these slots, and another holder keeps its own.
-fn doubled_in_place(alloc: Global, slots: Slots, wanted: Slots) -> Result<bool, Error> {
+// Whether an array that is doubled in place has these slots, and another holder its own still.
+fn doubled_in_place(alloc: Global, slots: Slots, wanted: Slots) -> Result<[bool; 2], Error> {
     let mut array = array_of(alloc, slots)?;
     let holder = array.try_clone(alloc)?;
     arity_assign::unary(alloc, &mut array, doubled)?;
-    Ok(has_slots(alloc, &array, wanted)? && has_slots(alloc, &holder, slots)?)
+    Ok([
+        has_slots(alloc, &array, wanted),
+        has_slots(alloc, &holder, slots),
+    ])
 }
 
 // The refusal of a sum in place, and whether the array has these slots then.
 fn summed_in_place(
     alloc: Global,
     slots: Slots,
-    rhs: &Numbers,
+    rhs: Slots,
     after: Slots,
 ) -> Result<(Option<Error>, bool), Error> {
     let mut lhs = array_of(alloc, slots)?;
-    let refusal = arity_assign::binary(alloc, &mut lhs, rhs, sum).err();
-    Ok((refusal, has_slots(alloc, &lhs, after)?))
+    let rhs = array_of(alloc, rhs)?;
+    let refusal = arity_assign::binary(alloc, &mut lhs, &rhs, sum).err();
+    Ok((refusal, has_slots(alloc, &lhs, after)))
 }
 
 #[test]
-fn slots_are_changed_in_place_or_stay(rt: HostRuntime) -> Result<(), Error> {
+fn slots_are_changed_in_place_or_stay(rt: HostRuntime) {
     let alloc = rt.alloc();
     let slots = [Some(5), Some(6), None, Some(10)];
     let doubles = [Some(10), Some(12), None, Some(20)];
-    assert!(rt; doubled_in_place(alloc, &slots, &doubles)?, "doubled");
-    let rhs = array_of(alloc, &[Some(1), Some(2), Some(1), None])?;
-    let summed = summed_in_place(alloc, &slots, &rhs, &[Some(6), Some(8), None, None])?;
-    assert_eq!(rt; summed, (None, true), "summed");
-    let refused = summed_in_place(alloc, &slots[1..], &rhs, &slots[1..])?;
-    assert_eq!(rt; refused, (Some(LENGTHS), true), "three and four slots");
-    Ok(())
+    assert_eq!(rt;
+        doubled_in_place(alloc, &slots, &doubles),
+        Ok([true; 2]),
+        "doubled"
+    );
+    let rhs = [Some(1), Some(2), Some(1), None];
+    let sums = [Some(6), Some(8), None, None];
+    assert_eq!(rt;
+        summed_in_place(alloc, &slots, &rhs, &sums),
+        Ok((None, true)),
+        "summed"
+    );
+    let lengths = Some(Error::InvalidArgumentError(Reason::Lengths));
+    let refused = summed_in_place(alloc, &slots[1..], &rhs, &slots[1..]);
+    assert_eq!(rt; refused, Ok((lengths, true)), "three and four slots");
 }

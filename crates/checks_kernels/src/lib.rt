@@ -4,9 +4,11 @@
 #[cfg(test)]
 mod arity;
 #[cfg(test)]
-mod bytes;
+mod calls;
 #[cfg(test)]
 mod division;
+#[cfg(test)]
+mod flags;
 #[cfg(test)]
 mod single;
 #[cfg(test)]

@@ -12,6 +12,42 @@ type Decimals = PrimitiveArray<i128>;
 
 type Slots = [Option<i128>; 3];
 
+#[derive(Clone, Copy, Debug)]
+enum Operator {
+    Add,
+    CheckedAdd,
+    SaturatingAdd,
+    Sub,
+    CheckedSub,
+    SaturatingSub,
+    Mul,
+    CheckedMul,
+    SaturatingMul,
+    Div,
+    CheckedDiv,
+}
+
+fn of_two(
+    alloc: Global,
+    operator: Operator,
+    lhs: &Decimals,
+    rhs: &Decimals,
+) -> Result<Decimals, Error> {
+    match operator {
+        Operator::Add => lhs.add(alloc, rhs),
+        Operator::CheckedAdd => lhs.checked_add(alloc, rhs),
+        Operator::SaturatingAdd => lhs.saturating_add(alloc, rhs),
+        Operator::Sub => lhs.sub(alloc, rhs),
+        Operator::CheckedSub => lhs.checked_sub(alloc, rhs),
+        Operator::SaturatingSub => lhs.saturating_sub(alloc, rhs),
+        Operator::Mul => lhs.mul(alloc, rhs),
+        Operator::CheckedMul => lhs.checked_mul(alloc, rhs),
+        Operator::SaturatingMul => lhs.saturating_mul(alloc, rhs),
+        Operator::Div => lhs.div(alloc, rhs),
+        Operator::CheckedDiv => lhs.checked_div(alloc, rhs),
+    }
+}
+
 fn decimals(alloc: Global, slots: Slots) -> Result<Decimals, Error> {
     PrimitiveArray::from_options(alloc, DataType::Decimal(5, 2), &slots)
 }
@@ -24,75 +60,63 @@ fn answers(alloc: Global, answer: Result<Decimals, Error>, wanted: Slots) -> boo
     }
 }
 
-// Whether the plain operators answer these slots, each its own.
-fn are_plain(alloc: Global, lhs: &Decimals, rhs: &Decimals, wanted: [Slots; 4]) -> [bool; 4] {
-    [
-        answers(alloc, lhs.add(alloc, rhs), wanted[0]),
-        answers(alloc, lhs.sub(alloc, rhs), wanted[1]),
-        answers(alloc, lhs.mul(alloc, rhs), wanted[2]),
-        answers(alloc, lhs.div(alloc, rhs), wanted[3]),
-    ]
-}
-
-// The same of the checked ones.
-fn are_checked(alloc: Global, lhs: &Decimals, rhs: &Decimals, wanted: [Slots; 4]) -> [bool; 4] {
-    [
-        answers(alloc, lhs.checked_add(alloc, rhs), wanted[0]),
-        answers(alloc, lhs.checked_sub(alloc, rhs), wanted[1]),
-        answers(alloc, lhs.checked_mul(alloc, rhs), wanted[2]),
-        answers(alloc, lhs.checked_div(alloc, rhs), wanted[3]),
-    ]
-}
-
-// The same of the saturating ones.
-fn are_saturated(alloc: Global, lhs: &Decimals, rhs: &Decimals, wanted: [Slots; 3]) -> [bool; 3] {
-    [
-        answers(alloc, lhs.saturating_add(alloc, rhs), wanted[0]),
-        answers(alloc, lhs.saturating_sub(alloc, rhs), wanted[1]),
-        answers(alloc, lhs.saturating_mul(alloc, rhs), wanted[2]),
-    ]
+// Whether an operator of two arrays of these slots answers as wanted.
+fn two_answer(alloc: Global, operator: Operator, lhs: Slots, rhs: Slots, wanted: Slots) -> bool {
+    match (decimals(alloc, lhs), decimals(alloc, rhs)) {
+        (Ok(lhs), Ok(rhs)) => answers(alloc, of_two(alloc, operator, &lhs, &rhs), wanted),
+        _ => false,
+    }
 }
 
 #[test]
-fn operators_of_decimals_answer(rt: HostRuntime) -> Result<(), Error> {
-    let alloc = rt.alloc();
-    let lhs = decimals(alloc, [Some(150), None, Some(-9999)])?;
-    let rhs = decimals(alloc, [Some(25), Some(0), Some(100)])?;
-    let wanted = [
-        [Some(175), None, Some(-9899)],
-        [Some(125), None, Some(-10099)],
-        [Some(37), None, Some(-9999)],
-        [Some(600), None, Some(-9999)],
+fn plain_operators_of_decimals_answer(rt: HostRuntime) {
+    let lhs = [Some(150), None, Some(-9999)];
+    let rhs = [Some(25), Some(0), Some(100)];
+    let cases = [
+        (Operator::Add, [Some(175), None, Some(-9899)]),
+        (Operator::Sub, [Some(125), None, Some(-10099)]),
+        (Operator::Mul, [Some(37), None, Some(-9999)]),
+        (Operator::Div, [Some(600), None, Some(-9999)]),
     ];
-    assert_eq!(rt; are_plain(alloc, &lhs, &rhs, wanted), [true; 4]);
-    Ok(())
+    for (operator, wanted) in cases {
+        assert!(rt;
+            two_answer(rt.alloc(), operator, lhs, rhs, wanted),
+            "{operator:?}"
+        );
+    }
 }
 
 #[test]
-fn checked_operators_of_decimals_answer(rt: HostRuntime) -> Result<(), Error> {
-    let alloc = rt.alloc();
-    let lhs = decimals(alloc, [Some(99999), None, Some(-99999)])?;
-    let rhs = decimals(alloc, [Some(101), Some(1), Some(-50)])?;
-    let wanted = [
-        [None, None, None],
-        [Some(99898), None, Some(-99949)],
-        [None, None, Some(49999)],
-        [Some(99008), None, None],
+fn checked_operators_of_decimals_answer(rt: HostRuntime) {
+    let lhs = [Some(99999), None, Some(-99999)];
+    let rhs = [Some(101), Some(1), Some(-50)];
+    let cases = [
+        (Operator::CheckedAdd, [None, None, None]),
+        (Operator::CheckedSub, [Some(99898), None, Some(-99949)]),
+        (Operator::CheckedMul, [None, None, Some(49999)]),
+        (Operator::CheckedDiv, [Some(99008), None, None]),
     ];
-    assert_eq!(rt; are_checked(alloc, &lhs, &rhs, wanted), [true; 4]);
-    Ok(())
+    for (operator, wanted) in cases {
+        assert!(rt;
+            two_answer(rt.alloc(), operator, lhs, rhs, wanted),
+            "{operator:?}"
+        );
+    }
 }
 
 #[test]
-fn saturating_operators_of_decimals_answer(rt: HostRuntime) -> Result<(), Error> {
-    let alloc = rt.alloc();
-    let lhs = decimals(alloc, [Some(99999), None, Some(-99999)])?;
-    let rhs = decimals(alloc, [Some(101), Some(1), Some(500)])?;
-    let wanted = [
-        [Some(99999), None, Some(-99499)],
-        [Some(99898), None, Some(-99999)],
-        [Some(99999), None, Some(-99999)],
+fn saturating_operators_of_decimals_answer(rt: HostRuntime) {
+    let lhs = [Some(99999), None, Some(-99999)];
+    let rhs = [Some(101), Some(1), Some(500)];
+    let cases = [
+        (Operator::SaturatingAdd, [Some(99999), None, Some(-99499)]),
+        (Operator::SaturatingSub, [Some(99898), None, Some(-99999)]),
+        (Operator::SaturatingMul, [Some(99999), None, Some(-99999)]),
     ];
-    assert_eq!(rt; are_saturated(alloc, &lhs, &rhs, wanted), [true; 3]);
-    Ok(())
+    for (operator, wanted) in cases {
+        assert!(rt;
+            two_answer(rt.alloc(), operator, lhs, rhs, wanted),
+            "{operator:?}"
+        );
+    }
 }

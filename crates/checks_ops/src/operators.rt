@@ -15,6 +15,60 @@ type Bytes = PrimitiveArray<i8>;
 
 type Slots = [Option<i8>; 3];
 
+// The operators of two arrays that are those of an array and a number too.
+#[derive(Clone, Copy, Debug)]
+enum Operator {
+    Add,
+    CheckedAdd,
+    SaturatingAdd,
+    Sub,
+    CheckedSub,
+    SaturatingSub,
+    Mul,
+    CheckedMul,
+    SaturatingMul,
+    Div,
+    CheckedDiv,
+    Rem,
+    CheckedRem,
+}
+
+fn of_two(alloc: Global, operator: Operator, lhs: &Bytes, rhs: &Bytes) -> Result<Bytes, Error> {
+    match operator {
+        Operator::Add => lhs.add(alloc, rhs),
+        Operator::CheckedAdd => lhs.checked_add(alloc, rhs),
+        Operator::SaturatingAdd => lhs.saturating_add(alloc, rhs),
+        Operator::Sub => lhs.sub(alloc, rhs),
+        Operator::CheckedSub => lhs.checked_sub(alloc, rhs),
+        Operator::SaturatingSub => lhs.saturating_sub(alloc, rhs),
+        Operator::Mul => lhs.mul(alloc, rhs),
+        Operator::CheckedMul => lhs.checked_mul(alloc, rhs),
+        Operator::SaturatingMul => lhs.saturating_mul(alloc, rhs),
+        Operator::Div => lhs.div(alloc, rhs),
+        Operator::CheckedDiv => lhs.checked_div(alloc, rhs),
+        Operator::Rem => lhs.rem(alloc, rhs),
+        Operator::CheckedRem => lhs.checked_rem(alloc, rhs),
+    }
+}
+
+fn of_number(alloc: Global, operator: Operator, lhs: &Bytes, rhs: i8) -> Result<Bytes, Error> {
+    match operator {
+        Operator::Add => lhs.add(alloc, &rhs),
+        Operator::CheckedAdd => lhs.checked_add(alloc, &rhs),
+        Operator::SaturatingAdd => lhs.saturating_add(alloc, &rhs),
+        Operator::Sub => lhs.sub(alloc, &rhs),
+        Operator::CheckedSub => lhs.checked_sub(alloc, &rhs),
+        Operator::SaturatingSub => lhs.saturating_sub(alloc, &rhs),
+        Operator::Mul => lhs.mul(alloc, &rhs),
+        Operator::CheckedMul => lhs.checked_mul(alloc, &rhs),
+        Operator::SaturatingMul => lhs.saturating_mul(alloc, &rhs),
+        Operator::Div => lhs.div(alloc, &rhs),
+        Operator::CheckedDiv => lhs.checked_div(alloc, &rhs),
+        Operator::Rem => lhs.rem(alloc, &rhs),
+        Operator::CheckedRem => lhs.checked_rem(alloc, &rhs),
+    }
+}
+
 fn bytes_of(alloc: Global, slots: Slots) -> Result<Bytes, Error> {
     PrimitiveArray::from_options(alloc, DataType::Int8, &slots)
 }
@@ -24,6 +78,143 @@ fn answers(alloc: Global, answer: Result<Bytes, Error>, wanted: Slots) -> bool {
     match (answer, bytes_of(alloc, wanted)) {
         (Ok(array), Ok(wanted)) => array.equal(&wanted),
         _ => false,
+    }
+}
+
+// Whether an operator of two arrays of these slots answers as wanted.
+fn two_answer(alloc: Global, operator: Operator, lhs: Slots, rhs: Slots, wanted: Slots) -> bool {
+    match (bytes_of(alloc, lhs), bytes_of(alloc, rhs)) {
+        (Ok(lhs), Ok(rhs)) => answers(alloc, of_two(alloc, operator, &lhs, &rhs), wanted),
+        _ => false,
+    }
+}
+
+// The same of an array of these slots and a number.
+fn number_answers(alloc: Global, operator: Operator, lhs: Slots, rhs: i8, wanted: Slots) -> bool {
+    match bytes_of(alloc, lhs) {
+        Ok(lhs) => answers(alloc, of_number(alloc, operator, &lhs, rhs), wanted),
+        Err(_) => false,
+    }
+}
+
+#[test]
+fn plain_operators_answer_with_ample_memory(rt: HostRuntime) {
+    let lhs = [Some(7), None, Some(-30)];
+    let rhs = [Some(2), Some(1), Some(4)];
+    // the answer for two arrays, and for the left one and 4
+    let cases = [
+        (
+            Operator::Add,
+            [Some(9), None, Some(-26)],
+            [Some(11), None, Some(-26)],
+        ),
+        (
+            Operator::Sub,
+            [Some(5), None, Some(-34)],
+            [Some(3), None, Some(-34)],
+        ),
+        (
+            Operator::Mul,
+            [Some(14), None, Some(-120)],
+            [Some(28), None, Some(-120)],
+        ),
+        (
+            Operator::Div,
+            [Some(3), None, Some(-7)],
+            [Some(1), None, Some(-7)],
+        ),
+        (
+            Operator::Rem,
+            [Some(1), None, Some(-2)],
+            [Some(3), None, Some(-2)],
+        ),
+    ];
+    for (operator, two, number) in cases {
+        assert!(rt;
+            two_answer(rt.alloc(), operator, lhs, rhs, two),
+            "{operator:?}"
+        );
+        assert!(rt;
+            number_answers(rt.alloc(), operator, lhs, 4, number),
+            "{operator:?} of 4"
+        );
+    }
+}
+
+#[test]
+fn other_operators_of_two_arrays_answer_with_ample_memory(rt: HostRuntime) {
+    // of 100 and -100: 0, 200 and -10000
+    let lhs = [Some(100), None, Some(7)];
+    let rhs = [Some(-100), Some(1), Some(0)];
+    let cases = [
+        (Operator::CheckedAdd, [Some(0), None, Some(7)]),
+        (Operator::CheckedSub, [None, None, Some(7)]),
+        (Operator::CheckedMul, [None, None, Some(0)]),
+        (Operator::CheckedDiv, [Some(-1), None, None]),
+        (Operator::CheckedRem, [Some(0), None, None]),
+        (Operator::SaturatingAdd, [Some(0), None, Some(7)]),
+        (Operator::SaturatingSub, [Some(127), None, Some(7)]),
+        (Operator::SaturatingMul, [Some(-128), None, Some(0)]),
+    ];
+    for (operator, wanted) in cases {
+        assert!(rt;
+            two_answer(rt.alloc(), operator, lhs, rhs, wanted),
+            "{operator:?}"
+        );
+    }
+}
+
+#[test]
+fn other_operators_of_an_array_and_a_number_answer_with_ample_memory(rt: HostRuntime) {
+    // of -128 and -1: -129, -127 and 128, and the quotient 128
+    let lhs = [Some(-128), None, Some(7)];
+    let cases = [
+        (Operator::CheckedAdd, [None, None, Some(6)]),
+        (Operator::CheckedSub, [Some(-127), None, Some(8)]),
+        (Operator::CheckedMul, [None, None, Some(-7)]),
+        (Operator::CheckedDiv, [None, None, Some(-7)]),
+        (Operator::CheckedRem, [None, None, Some(0)]),
+        (Operator::SaturatingAdd, [Some(-128), None, Some(6)]),
+        (Operator::SaturatingSub, [Some(-127), None, Some(8)]),
+        (Operator::SaturatingMul, [Some(127), None, Some(-7)]),
+    ];
+    for (operator, wanted) in cases {
+        assert!(rt;
+            number_answers(rt.alloc(), operator, lhs, -1, wanted),
+            "{operator:?}"
+        );
+    }
+}
+
+// The operators of two arrays alone that wrap, and those that tell flags.
+#[derive(Clone, Copy, Debug)]
+enum Step {
+    Add,
+    Sub,
+    Mul,
+}
+
+fn wrapped(alloc: Global, step: Step, lhs: &Bytes, rhs: &Bytes) -> Result<Bytes, Error> {
+    match step {
+        Step::Add => lhs.wrapping_add(alloc, rhs),
+        Step::Sub => lhs.wrapping_sub(alloc, rhs),
+        Step::Mul => lhs.wrapping_mul(alloc, rhs),
+    }
+}
+
+fn flagged(alloc: Global, step: Step, lhs: &Bytes, rhs: &Bytes) -> Result<(Bytes, Bitmap), Error> {
+    match step {
+        Step::Add => lhs.overflowing_add(alloc, rhs),
+        Step::Sub => lhs.overflowing_sub(alloc, rhs),
+        Step::Mul => lhs.overflowing_mul(alloc, rhs),
+    }
+}
+
+fn flagged_with(alloc: Global, step: Step, lhs: &Bytes, rhs: i8) -> Result<(Bytes, Bitmap), Error> {
+    match step {
+        Step::Add => lhs.overflowing_add(alloc, &rhs),
+        Step::Sub => lhs.overflowing_sub(alloc, &rhs),
+        Step::Mul => lhs.overflowing_mul(alloc, &rhs),
     }
 }
 
@@ -38,211 +229,90 @@ fn is_flagged(alloc: Global, answer: Result<(Bytes, Bitmap), Error>, wanted: Slo
     }
 }
 
-// Whether the plain operators of two arrays answer these slots, each its own.
-fn are_plain(alloc: Global, lhs: &Bytes, rhs: &Bytes, wanted: [Slots; 5]) -> [bool; 5] {
-    [
-        answers(alloc, lhs.add(alloc, rhs), wanted[0]),
-        answers(alloc, lhs.sub(alloc, rhs), wanted[1]),
-        answers(alloc, lhs.mul(alloc, rhs), wanted[2]),
-        answers(alloc, lhs.div(alloc, rhs), wanted[3]),
-        answers(alloc, lhs.rem(alloc, rhs), wanted[4]),
-    ]
-}
-
-// The same of an array and a number.
-fn are_plain_with(alloc: Global, lhs: &Bytes, rhs: &i8, wanted: [Slots; 5]) -> [bool; 5] {
-    [
-        answers(alloc, lhs.add(alloc, rhs), wanted[0]),
-        answers(alloc, lhs.sub(alloc, rhs), wanted[1]),
-        answers(alloc, lhs.mul(alloc, rhs), wanted[2]),
-        answers(alloc, lhs.div(alloc, rhs), wanted[3]),
-        answers(alloc, lhs.rem(alloc, rhs), wanted[4]),
-    ]
-}
-
-// Whether the checked operators of two arrays answer these slots.
-fn are_checked(alloc: Global, lhs: &Bytes, rhs: &Bytes, wanted: [Slots; 5]) -> [bool; 5] {
-    [
-        answers(alloc, lhs.checked_add(alloc, rhs), wanted[0]),
-        answers(alloc, lhs.checked_sub(alloc, rhs), wanted[1]),
-        answers(alloc, lhs.checked_mul(alloc, rhs), wanted[2]),
-        answers(alloc, lhs.checked_div(alloc, rhs), wanted[3]),
-        answers(alloc, lhs.checked_rem(alloc, rhs), wanted[4]),
-    ]
-}
-
-// The same of an array and a number.
-fn are_checked_with(alloc: Global, lhs: &Bytes, rhs: &i8, wanted: [Slots; 5]) -> [bool; 5] {
-    [
-        answers(alloc, lhs.checked_add(alloc, rhs), wanted[0]),
-        answers(alloc, lhs.checked_sub(alloc, rhs), wanted[1]),
-        answers(alloc, lhs.checked_mul(alloc, rhs), wanted[2]),
-        answers(alloc, lhs.checked_div(alloc, rhs), wanted[3]),
-        answers(alloc, lhs.checked_rem(alloc, rhs), wanted[4]),
-    ]
-}
-
-// Whether the wrapping operators of two arrays answer these slots.
-fn are_wrapped(alloc: Global, lhs: &Bytes, rhs: &Bytes, wanted: [Slots; 3]) -> [bool; 3] {
-    [
-        answers(alloc, lhs.wrapping_add(alloc, rhs), wanted[0]),
-        answers(alloc, lhs.wrapping_sub(alloc, rhs), wanted[1]),
-        answers(alloc, lhs.wrapping_mul(alloc, rhs), wanted[2]),
-    ]
-}
-
-// Whether the saturating operators of two arrays answer these slots.
-fn are_saturated(alloc: Global, lhs: &Bytes, rhs: &Bytes, wanted: [Slots; 3]) -> [bool; 3] {
-    [
-        answers(alloc, lhs.saturating_add(alloc, rhs), wanted[0]),
-        answers(alloc, lhs.saturating_sub(alloc, rhs), wanted[1]),
-        answers(alloc, lhs.saturating_mul(alloc, rhs), wanted[2]),
-    ]
-}
-
-// The same of an array and a number.
-fn are_saturated_with(alloc: Global, lhs: &Bytes, rhs: &i8, wanted: [Slots; 3]) -> [bool; 3] {
-    [
-        answers(alloc, lhs.saturating_add(alloc, rhs), wanted[0]),
-        answers(alloc, lhs.saturating_sub(alloc, rhs), wanted[1]),
-        answers(alloc, lhs.saturating_mul(alloc, rhs), wanted[2]),
-    ]
-}
-
-#[test]
-fn operators_of_two_arrays_answer_with_ample_memory(rt: HostRuntime) -> Result<(), Error> {
-    let alloc = rt.alloc();
-    let lhs = bytes_of(alloc, [Some(7), None, Some(-30)])?;
-    let rhs = bytes_of(alloc, [Some(2), Some(1), Some(4)])?;
-    let wanted = [
-        [Some(9), None, Some(-26)],
-        [Some(5), None, Some(-34)],
-        [Some(14), None, Some(-120)],
-        [Some(3), None, Some(-7)],
-        [Some(1), None, Some(-2)],
-    ];
-    let are_right = are_plain(alloc, &lhs, &rhs, wanted);
-    assert_eq!(rt; are_right, [true; 5], "plain");
-    // 100 and -100: 0, 200 and -10000
-    let lhs = bytes_of(alloc, [Some(100), None, Some(7)])?;
-    let rhs = bytes_of(alloc, [Some(-100), Some(1), Some(0)])?;
-    let wanted = [
-        [Some(0), None, Some(7)],
-        [None, None, Some(7)],
-        [None, None, Some(0)],
-        [Some(-1), None, None],
-        [Some(0), None, None],
-    ];
-    let are_right = are_checked(alloc, &lhs, &rhs, wanted);
-    assert_eq!(rt; are_right, [true; 5], "checked");
-    let wanted = [
-        [Some(0), None, Some(7)],
-        [Some(-56), None, Some(7)],
-        [Some(-16), None, Some(0)],
-    ];
-    let are_right = are_wrapped(alloc, &lhs, &rhs, wanted);
-    assert_eq!(rt; are_right, [true; 3], "wrapping");
-    let wanted = [
-        [Some(0), None, Some(7)],
-        [Some(127), None, Some(7)],
-        [Some(-128), None, Some(0)],
-    ];
-    let are_right = are_saturated(alloc, &lhs, &rhs, wanted);
-    assert_eq!(rt; are_right, [true; 3], "saturating");
-    Ok(())
-}
-
-#[test]
-fn operators_of_an_array_and_a_number_answer_with_ample_memory(
-    rt: HostRuntime,
-) -> Result<(), Error> {
-    let alloc = rt.alloc();
-    let lhs = bytes_of(alloc, [Some(7), None, Some(-30)])?;
-    let wanted = [
-        [Some(11), None, Some(-26)],
-        [Some(3), None, Some(-34)],
-        [Some(28), None, Some(-120)],
-        [Some(1), None, Some(-7)],
-        [Some(3), None, Some(-2)],
-    ];
-    let are_right = are_plain_with(alloc, &lhs, &4, wanted);
-    assert_eq!(rt; are_right, [true; 5], "plain");
-    // -128 and -1: -129, -127 and 128, and the quotient 128
-    let lhs = bytes_of(alloc, [Some(-128), None, Some(7)])?;
-    let wanted = [
-        [None, None, Some(6)],
-        [Some(-127), None, Some(8)],
-        [None, None, Some(-7)],
-        [None, None, Some(-7)],
-        [None, None, Some(0)],
-    ];
-    let are_right = are_checked_with(alloc, &lhs, &-1, wanted);
-    assert_eq!(rt; are_right, [true; 5], "checked");
-    let wanted = [
-        [Some(-128), None, Some(6)],
-        [Some(-127), None, Some(8)],
-        [Some(127), None, Some(-7)],
-    ];
-    let are_right = are_saturated_with(alloc, &lhs, &-1, wanted);
-    assert_eq!(rt; are_right, [true; 3], "saturating");
-    Ok(())
-}
-
-#[test]
-fn overflowing_operators_answer_with_ample_memory(rt: HostRuntime) -> Result<(), Error> {
-    let alloc = rt.alloc();
-    // 200, 200 and 10000
-    let lhs = bytes_of(alloc, [Some(100), None, Some(1)])?;
-    let rhs = bytes_of(alloc, [Some(100), Some(1), Some(1)])?;
-    let sum = lhs.overflowing_add(alloc, &rhs);
-    assert!(rt; is_flagged(alloc, sum, [Some(-56), None, Some(2)]), "sum");
-    let product = lhs.overflowing_mul(alloc, &rhs);
-    assert!(rt;
-        is_flagged(alloc, product, [Some(16), None, Some(1)]),
-        "product"
-    );
-    let rhs = bytes_of(alloc, [Some(-100), Some(1), Some(1)])?;
-    let difference = lhs.overflowing_sub(alloc, &rhs);
-    assert!(rt;
-        is_flagged(alloc, difference, [Some(-56), None, Some(0)]),
-        "difference"
-    );
-    Ok(())
-}
-
-#[test]
-fn overflowing_operators_with_a_number_answer(rt: HostRuntime) -> Result<(), Error> {
-    let alloc = rt.alloc();
-    let lhs = bytes_of(alloc, [Some(100), None, Some(1)])?;
-    let sum = lhs.overflowing_add(alloc, &100);
-    assert!(rt; is_flagged(alloc, sum, [Some(-56), None, Some(101)]), "sum");
-    let difference = lhs.overflowing_sub(alloc, &-100);
-    assert!(rt;
-        is_flagged(alloc, difference, [Some(-56), None, Some(101)]),
-        "difference"
-    );
-    let product = lhs.overflowing_mul(alloc, &100);
-    assert!(rt;
-        is_flagged(alloc, product, [Some(16), None, Some(100)]),
-        "product"
-    );
-    Ok(())
-}
-
-// The slot of a clamped sum of two rows.
-fn clamped_sum(alloc: Global, lhs: u64, rhs: u64) -> Result<Option<u64>, Error> {
-    let lhs = PrimitiveArray::from_options(alloc, DataType::UInt64, &[Some(lhs)])?;
-    let rhs = PrimitiveArray::from_options(alloc, DataType::UInt64, &[Some(rhs)])?;
-    let sums = lhs.saturating_add(alloc, &rhs)?;
-    if sums.len() != 1 {
-        return Ok(None);
+// Whether both operators of two arrays answer these slots, and the flags of the first row alone.
+fn both_answer(alloc: Global, step: Step, lhs: Slots, rhs: Slots, wanted: Slots) -> [bool; 2] {
+    match (bytes_of(alloc, lhs), bytes_of(alloc, rhs)) {
+        (Ok(lhs), Ok(rhs)) => [
+            answers(alloc, wrapped(alloc, step, &lhs, &rhs), wanted),
+            is_flagged(alloc, flagged(alloc, step, &lhs, &rhs), wanted),
+        ],
+        _ => [false; 2],
     }
-    Ok(sums.get(0))
+}
+
+// Whether the operator of an array and a number answers them.
+fn number_is_flagged(alloc: Global, step: Step, lhs: Slots, rhs: i8, wanted: Slots) -> bool {
+    match bytes_of(alloc, lhs) {
+        Ok(lhs) => is_flagged(alloc, flagged_with(alloc, step, &lhs, rhs), wanted),
+        Err(_) => false,
+    }
 }
 
 #[test]
-fn operators_take_unsigned_numbers(rt: HostRuntime) -> Result<(), Error> {
-    let sum = clamped_sum(rt.alloc(), u64::MAX, 1)?;
-    assert_eq!(rt; sum, Some(u64::MAX), "past 64 bits");
-    Ok(())
+fn wrapping_and_overflowing_operators_answer_with_ample_memory(rt: HostRuntime) {
+    // 200, 200 and 10000
+    let lhs = [Some(100), None, Some(1)];
+    let cases = [
+        (
+            Step::Add,
+            [Some(100), Some(1), Some(1)],
+            [Some(-56), None, Some(2)],
+        ),
+        (
+            Step::Sub,
+            [Some(-100), Some(1), Some(1)],
+            [Some(-56), None, Some(0)],
+        ),
+        (
+            Step::Mul,
+            [Some(100), Some(1), Some(1)],
+            [Some(16), None, Some(1)],
+        ),
+    ];
+    for (step, rhs, wanted) in cases {
+        assert_eq!(rt;
+            both_answer(rt.alloc(), step, lhs, rhs, wanted),
+            [true; 2],
+            "{step:?}"
+        );
+    }
+}
+
+#[test]
+fn overflowing_operators_with_a_number_answer_with_ample_memory(rt: HostRuntime) {
+    let lhs = [Some(100), None, Some(1)];
+    let cases = [
+        (Step::Add, 100, [Some(-56), None, Some(101)]),
+        (Step::Sub, -100, [Some(-56), None, Some(101)]),
+        (Step::Mul, 100, [Some(16), None, Some(100)]),
+    ];
+    for (step, rhs, wanted) in cases {
+        assert!(rt;
+            number_is_flagged(rt.alloc(), step, lhs, rhs, wanted),
+            "{step:?} of {rhs}"
+        );
+    }
+}
+
+// The slot of an array of one slot.
+fn lone(answer: Result<PrimitiveArray<u64>, Error>) -> Result<Option<u64>, Error> {
+    match answer {
+        Ok(array) if array.len() == 1 => Ok(array.get(0)),
+        Ok(_) => Err(Error::OutOfSpec),
+        Err(error) => Err(error),
+    }
+}
+
+// The clamped sum of a number and itself.
+fn clamped_double(alloc: Global, number: u64) -> Result<Option<u64>, Error> {
+    match PrimitiveArray::from_options(alloc, DataType::UInt64, &[Some(number)]) {
+        Ok(array) => lone(array.saturating_add(alloc, &array)),
+        Err(error) => Err(error),
+    }
+}
+
+#[test]
+fn operators_take_unsigned_numbers(rt: HostRuntime) {
+    let sum = clamped_double(rt.alloc(), u64::MAX);
+    assert_eq!(rt; sum, Ok(Some(u64::MAX)), "past 64 bits");
 }
