@@ -1,6 +1,6 @@
 -- Days and times of day of instants that are given by whole seconds.
-use Rattle.std.proofs.Common.{◌≡◌, ℕ, ◌+◌, ◌-◌, ◌*◌, ◌<◌, ◌≤◌, refl, sym, ap, ◌∙◌, arith, rules}
-use Rattle.std.proofs.Common.{ℤ, pos, neg_ℤ, ◌+ℤ◌, ◌-ℤ◌, ◌*ℤ◌, ◌<ℤ◌, ◌≤ℤ◌, unsigned_abs, IsTrue}
+use Rattle.std.proofs.Common.{◌≡◌, ℕ, ◌<◌, refl, sym, ◌∙◌, arith}
+use Rattle.std.proofs.Common.{ℤ, pos, neg_ℤ, ◌+ℤ◌, ◌*ℤ◌, IsTrue}
 use Rattle.std.specs.Prelude.{Bool, true, false, not, ◌&&◌}
 use Rattle.std.specs.Int.{int_div_euclid, int_rem_euclid}
 use Rattle.jiff_core.specs.Calendar.{IsBetween}
@@ -8,7 +8,7 @@ use Rattle.jiff_core.specs.Date.{epoch_day}
 use Rattle.jiff_core.specs.Time.{time_nanos, time_seconds}
 use Rattle.jiff_core.specs.declared.civil.datetime.DateTime.{DateTime}
 use Rattle.jiff_core.proofs.SignedLemmas.{signed_arith}
-use Rattle.col_calendar.specs.Civil.{IsDateTimeOf, day_of, instant_at, is_civil_day, local_instant}
+use Rattle.col_calendar.specs.Civil.{IsDateTimeOf, day_of, instant_at, local_instant}
 use Rattle.col_calendar.specs.Civil.{midnight_of, time_of}
 use Rattle.col_calendar.specs.Conversion.{is_civil}
 use Rattle.col_calendar.proofs.CivilLemmas.{civil_day-between}

@@ -8,8 +8,8 @@ use Rattle.jiff_core.specs.declared.civil.date.Date.{Date}
 use Rattle.jiff_core.proofs.DateLemmas.{days_from_civil-day, days_from_civil-max}
 use Rattle.jiff_core.proofs.DateLemmas.{days_from_civil-min}
 use Rattle.jiff_core.proofs.SignedLemmas.{signed_arith}
-use Rattle.col_calendar.specs.Civil.{day_of_month, iso_week_of, month_of, place_in_year}
-use Rattle.col_calendar.specs.Civil.{thursday_of, year_of}
+use Rattle.col_calendar.specs.Civil.{place_in_year}
+use Rattle.col_calendar.specs.Civil.{thursday_of}
 use Rattle.col_calendar.specs.Laws.{IsKnownDay}
 use Rattle.col_calendar.proofs.CivilLemmas.{day_number-date}
 

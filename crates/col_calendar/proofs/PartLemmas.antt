@@ -1,8 +1,8 @@
 -- What a step that takes a part gives, and what a kernel answers whose closure takes it.
-use Rattle.std.proofs.Common.{◌≡◌, ℕ, Bool, true, false, refl, sym, ap, ◌∙◌, ℤ, ◌+ℤ◌, Ok, Err}
-use Rattle.std.proofs.Common.{List, [], ◌∷◌, Option, Some, None, Result}
+use Rattle.std.proofs.Common.{◌≡◌, ℕ, Bool, true, false, refl, ap, ℤ, ◌+ℤ◌, Ok, Err}
+use Rattle.std.proofs.Common.{List, Option, Some, None, Result}
 use Rattle.std.specs.Prelude.{◌&&◌, IfErr, IfOk}
-use Rattle.col_model.specs.Cell.{Cell, Cause, null, out_of_range, whole}
+use Rattle.col_model.specs.Cell.{Cell, Cause, null, out_of_range}
 use Rattle.col_model.specs.WholeStep.{each_cell}
 use Rattle.col_types.specs.Answer.{Answers, UnlessMemory, as_errors}
 use Rattle.col_types.specs.Column.{Column, column_answer}
@@ -16,7 +16,7 @@ use Rattle.col_arity.specs.Rows.{AnswersWith, IsMapped, RefusesWith}
 use Rattle.col_arity.proofs.KernelLemmas.{AnswersStep, Refuses, RefusesStep, Values, singles}
 use Rattle.col_arity.proofs.KernelLemmas.{values}
 use Rattle.col_arity.proofs.StepLemmas.{cells_of_one, on_one, slots_made, slots_refused}
-use Rattle.col_calendar.specs.Civil.{instant_at, local_instant}
+use Rattle.col_calendar.specs.Civil.{instant_at}
 use Rattle.col_calendar.specs.Conversion.{is_civil}
 use Rattle.col_calendar.specs.Offset.{zone_answer}
 use Rattle.col_calendar.specs.Part.{Part, can_part, instant_step, offset_of_type, part_answer}
@@ -114,11 +114,3 @@ part_answer-unread p c e can h = by_zone _ refl h where
   by_zone None is h =
       let same : InvalidArgumentError Zone ≡ e = cc in rw (can, is) (ap Err same)
   by_zone (Some seconds) is h = cc
-
--- the values of a whole number that is stored
-abbrev pub stored_values : Values ℤ
-stored_values = record {
-  numbers = λ n. n ∷ [];
-  cell = λ n. whole n;
-  is_cell = λ n. refl;
-}

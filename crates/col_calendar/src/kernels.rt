@@ -1,10 +1,12 @@
 //! The kernels that take a part, for any part: by the array's type, its zone, and each row.
-ghost use Rattle.std.specs.Prelude.{◌≡◌, ◌<◌, ℕ, ℤ, IsTrue, Some, true};
+ghost use Rattle.std.specs.Prelude.{◌≡◌, ◌<◌, ℕ, IsTrue, Result, Some, true};
+ghost use Rattle.col_types.specs.declared.error.Error.{Error};
 ghost use Rattle.col_model.specs.Cell.{whole};
 ghost use Rattle.col_types.specs.Answer.{Answers, as_errors};
 ghost use Rattle.col_types.specs.DataKind.{kind_of};
-ghost use Rattle.col_flat.specs.Parts.{column_of};
+ghost use Rattle.col_flat.specs.Parts.{column_of, slots_of};
 ghost use Rattle.col_arity.specs.Answered.{plain_cell};
+ghost use Rattle.col_arity.specs.Rows.{IsCallableAtValid};
 ghost use Rattle.col_array.specs.Any.{any_column};
 ghost use Rattle.col_calendar.specs.Civil.{instant_at, instant_of, midnight_of};
 ghost use Rattle.col_calendar.specs.Conversion.{is_civil};
@@ -117,8 +119,17 @@ fn parts_of_32<O: NativeWhole, P: CivilPart<O>>(
         (parts_by P.part (column_of array.now) (Some zone.now)) }
 {
     match time_unit(array.data_type()) {
-        Some(unit) => times_of_32::<O, P>(alloc, unit, zone, array),
-        None => days::<O, P>(alloc, zone, array),
+        Some(unit) => {
+            let op = |_: &FixedOffset, n: i32| part_of_time::<O, P>(unit, i64::from(n));
+            parts_of_numbers::<i32, O, P, _>(alloc, zone, array, op)
+        }
+        None => {
+            let op = |zone: &FixedOffset, n: i32| -> Result<O, Error>
+                ensures { plain_cell (λ x. whole (O.value x)) result
+                    ≡ as_errors (instant_step P.part zone.now (midnight_of n)) }
+            { part_of_day::<O, P>(zone, n) };
+            parts_of_numbers::<i32, O, P, _>(alloc, zone, array, op)
+        }
     }
 }
 
@@ -133,87 +144,42 @@ fn parts_of_64<O: NativeWhole, P: CivilPart<O>>(
         (parts_by P.part (column_of array.now) (Some zone.now)) }
 {
     match time_unit(array.data_type()) {
-        Some(unit) => times_of_64::<O, P>(alloc, unit, zone, array),
-        None => instants::<O, P>(alloc, instant_unit(array.data_type()), zone, array),
+        Some(unit) => {
+            let op = |_: &FixedOffset, n: i64| part_of_time::<O, P>(unit, n);
+            parts_of_numbers::<i64, O, P, _>(alloc, zone, array, op)
+        }
+        None => {
+            let unit = instant_unit(array.data_type());
+            let op = |zone: &FixedOffset, n: i64| part_of_unit::<O, P>(unit, zone, n);
+            parts_of_numbers::<i64, O, P, _>(alloc, zone, array, op)
+        }
     }
 }
 
-// The parts of dates.
-fn days<O: NativeWhole, P: CivilPart<O>>(
+// The parts of numbers, by a closure that takes the part of one.
+fn parts_of_numbers<
+    I: NativeWhole,
+    O: NativeWhole,
+    P: CivilPart<O>,
+    F: Fn(&FixedOffset, I) -> Result<O, Error>,
+>(
     alloc: Global,
     zone: &FixedOffset,
-    array: &PrimitiveArray<i32>,
+    array: &PrimitiveArray<I>,
+    op: F,
 ) -> Result<PrimitiveArray<O>, Error>
-    requires { (n : ℤ) → number_step P.part (column_of array.now).data_type zone.now n
-        ≡ instant_step P.part zone.now (midnight_of n) }
+    requires callable { IsCallableAtValid I.numbers (λ n. F.pre op zone n) (slots_of array.now) }
+    requires step { (n : I) (r : Result O Error) → F.post op zone n r
+        → plain_cell (λ x. whole (O.value x)) r
+        ≡ as_errors (number_step P.part (column_of array.now).data_type zone.now (I.value n)) }
     ensures answer { Answers column_of result
         (parts_by P.part (column_of array.now) (Some zone.now)) }
 {
-    let each = |n: i32| -> Result<O, Error>
-        ensures { plain_cell (λ x. whole (O.value x)) result
-            ≡ as_errors (instant_step P.part zone.entry.now (midnight_of n)) }
-    { part_of_day::<O, P>(zone, n) };
+    let each = |n: I| -> Result<O, Error>
+        requires { F.pre op zone n }
+        ensures { F.post op zone.entry n result }
+    { op(zone, n) };
     try_unary(alloc, array, each, P::data_type())
-}
-
-// The parts of times of day of 32 bits.
-fn times_of_32<O: NativeWhole, P: CivilPart<O>>(
-    alloc: Global,
-    unit: TimeUnit,
-    zone: &FixedOffset,
-    array: &PrimitiveArray<i32>,
-) -> Result<PrimitiveArray<O>, Error>
-    requires { (n : ℤ) → number_step P.part (column_of array.now).data_type zone.now n
-        ≡ clock_step P.part (instant_of unit n) }
-    ensures answer { Answers column_of result
-        (parts_by P.part (column_of array.now) (Some zone.now)) }
-{
-    try_unary(
-        alloc,
-        array,
-        |n: i32| part_of_time::<O, P>(unit, i64::from(n)),
-        P::data_type(),
-    )
-}
-
-// The parts of times of day of 64 bits.
-fn times_of_64<O: NativeWhole, P: CivilPart<O>>(
-    alloc: Global,
-    unit: TimeUnit,
-    zone: &FixedOffset,
-    array: &PrimitiveArray<i64>,
-) -> Result<PrimitiveArray<O>, Error>
-    requires { (n : ℤ) → number_step P.part (column_of array.now).data_type zone.now n
-        ≡ clock_step P.part (instant_of unit n) }
-    ensures answer { Answers column_of result
-        (parts_by P.part (column_of array.now) (Some zone.now)) }
-{
-    try_unary(
-        alloc,
-        array,
-        |n: i64| part_of_time::<O, P>(unit, n),
-        P::data_type(),
-    )
-}
-
-// The parts of instants.
-fn instants<O: NativeWhole, P: CivilPart<O>>(
-    alloc: Global,
-    unit: TimeUnit,
-    zone: &FixedOffset,
-    array: &PrimitiveArray<i64>,
-) -> Result<PrimitiveArray<O>, Error>
-    requires { (n : ℤ) → number_step P.part (column_of array.now).data_type zone.now n
-        ≡ instant_step P.part zone.now (instant_of unit n) }
-    ensures answer { Answers column_of result
-        (parts_by P.part (column_of array.now) (Some zone.now)) }
-{
-    try_unary(
-        alloc,
-        array,
-        |n: i64| part_of_unit::<O, P>(unit, zone, n),
-        P::data_type(),
-    )
 }
 
 // The part of a day's midnight.

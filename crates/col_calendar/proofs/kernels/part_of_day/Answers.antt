@@ -1,4 +1,4 @@
-use Rattle.std.proofs.Common.{◌≡◌, ℤ, ◌*ℤ◌, pos, rules, w64, to_z, of_z}
+use Rattle.std.proofs.Common.{◌≡◌, ◌*ℤ◌, pos, rules, w64, to_z, of_z}
 use Rattle.col_calendar.proofs.InstantLemmas.{instant-midnight}
 use Rattle.col_calendar.proofs.kernels.part_of_day.Goals as goal
 

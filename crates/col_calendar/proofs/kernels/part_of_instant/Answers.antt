@@ -1,4 +1,4 @@
-use Rattle.std.proofs.Common.{◌≡◌, ℤ, ◌+ℤ◌, true, false, rules, w64, to_z, of_z, refl}
+use Rattle.std.proofs.Common.{◌≡◌, ◌+ℤ◌, true, false, rules, w64, to_z, of_z, refl}
 use Rattle.col_calendar.specs.Civil.{instant_at}
 use Rattle.col_calendar.specs.Conversion.{is_civil}
 use Rattle.col_calendar.proofs.PartLemmas.{instant_step-beyond, instant_step-within}

@@ -1,7 +1,4 @@
-use Rattle.std.proofs.Common.{rules, ◌∙◌, arith}
-use Rattle.std.specs.Prelude.{IsTrue}
-use Rattle.col_calendar.specs.Conversion.{is_civil}
-use Rattle.col_calendar.specs.Civil.{instant_at, is_civil_day}
+use Rattle.std.proofs.Common.{rules}
 use Rattle.col_calendar.proofs.InstantLemmas.{instant-day, parts_at}
 use Rattle.col_calendar.proofs.temporal_conversions.datetime_at.Goals as goal
 

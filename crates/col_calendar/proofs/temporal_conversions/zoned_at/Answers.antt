@@ -1,4 +1,4 @@
-use Rattle.std.proofs.Common.{rules, ◌≡◌, ℤ, ◌+ℤ◌, w64, to_z, of_z}
+use Rattle.std.proofs.Common.{rules, ◌≡◌, ◌+ℤ◌, w64, to_z, of_z}
 use Rattle.col_calendar.proofs.InstantLemmas.{civil-seconds, local-civil, local-none, local-parts}
 use Rattle.col_calendar.proofs.temporal_conversions.zoned_at.Goals as goal
 
