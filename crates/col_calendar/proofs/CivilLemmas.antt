@@ -1,10 +1,9 @@
 -- The year, month and day of a date's day number, and its week.
-use Rattle.std.proofs.Common.{◌≡◌, ℕ, zero, suc, ◌+◌, ◌-◌, ◌<◌, ◌≤◌, ◌⊎◌, inl, inr, refl, sym, ap}
+use Rattle.std.proofs.Common.{◌≡◌, ℕ, zero, suc, ◌+◌, ◌-◌, ◌<◌, ◌≤◌, inl, inr, refl, sym, ap}
 use Rattle.std.proofs.Common.{◌∙◌, arith, ℤ, pos, neg_ℤ, ◌+ℤ◌, ◌-ℤ◌, ◌<ℤ◌, ◌≤ℤ◌, unsigned_abs}
 use Rattle.std.proofs.Common.{IsTrue, rules}
 use Rattle.std.proofs.lemmas.Bool.{cases_order}
-use Rattle.jiff_core.specs.Calendar.{IsBetween, IsCivilDate, IsYear, days_from_civil}
-use Rattle.jiff_core.specs.Calendar.{weekday_number}
+use Rattle.jiff_core.specs.Calendar.{IsBetween, IsCivilDate, days_from_civil}
 use Rattle.jiff_core.specs.Date.{epoch_day, ordinal}
 use Rattle.jiff_core.specs.declared.civil.date.Date.{Date}
 use Rattle.jiff_core.proofs.SignedLemmas.{signed_arith}
@@ -12,9 +11,9 @@ use Rattle.jiff_core.proofs.CalendarLemmas.{day_count-day, day_count-day_of_year
 use Rattle.jiff_core.proofs.CalendarLemmas.{day_count-later_year, day_count-lt_month}
 use Rattle.jiff_core.proofs.CalendarLemmas.{day_of_year_bound, days_from_civil-day_count}
 use Rattle.jiff_core.proofs.CalendarLemmas.{days_in_month_bounds, weekday_number-parts}
-use Rattle.jiff_core.proofs.DateLemmas.{civil, epoch_day-ordinal}
+use Rattle.jiff_core.proofs.DateLemmas.{civil}
 use borrow.Author.Differences.{up, down}
-use Rattle.col_calendar.specs.Civil.{begun, day_of_month, iso_week_of, month_of, place_in_year}
+use Rattle.col_calendar.specs.Civil.{begun, day_of_month, month_of, place_in_year}
 use Rattle.col_calendar.specs.Civil.{is_civil_day, thursday_of, year_of}
 use Rattle.col_calendar.specs.Laws.{DayNumberTellsItsDate}
 
@@ -28,17 +27,17 @@ pub between-civil_day : (d : ℤ) → IsBetween (neg_ℤ (pos 4_371_587)) (pos 2
 between-civil_day d h = search rules
 
 -- a span that has begun counts, and one that has not does not
-begun-more : (first : ℕ → ℤ) (n : ℤ) (k : ℕ) → first k ≤ℤ n
+pub begun-more : (first : ℕ → ℤ) (n : ℤ) (k : ℕ) → first k ≤ℤ n
     → begun first n (suc k) ≡ begun first n k + 1
 unfolding begun
 begun-more first n k h = grind (arith, signed_arith)
 
-begun-same : (first : ℕ → ℤ) (n : ℤ) (k : ℕ) → n <ℤ first k
+pub begun-same : (first : ℕ → ℤ) (n : ℤ) (k : ℕ) → n <ℤ first k
     → begun first n (suc k) ≡ begun first n k
 unfolding begun
 begun-same first n k h = grind (arith, signed_arith)
 
-begun-zero : (first : ℕ → ℤ) (n : ℤ) → begun first n zero ≡ 0
+pub begun-zero : (first : ℕ → ℤ) (n : ℤ) → begun first n zero ≡ 0
 unfolding begun
 begun-zero first n = refl
 
@@ -114,7 +113,7 @@ year_back : (i : ℕ) (y : ℤ) → y +ℤ pos 9_999 ≡ pos i → pos (i + 1) -
 year_back i y h = omega (arith, signed_arith)
 
 -- the days from one day number to a later one
-days_after : (a b : ℤ) (k : ℕ) → a ≡ b +ℤ pos k → unsigned_abs (a -ℤ b) ≡ k
+pub days_after : (a b : ℤ) (k : ℕ) → a ≡ b +ℤ pos k → unsigned_abs (a -ℤ b) ≡ k
 days_after a b k h =
     let apart : a -ℤ b ≡ pos k = omega (arith, signed_arith) in
     ap unsigned_abs apart

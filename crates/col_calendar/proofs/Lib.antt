@@ -2,3 +2,4 @@ pub mod CivilLemmas
 pub mod InstantLemmas
 pub mod KnownLemmas
 pub mod PartLemmas
+pub mod WeekLemmas

@@ -1,9 +1,10 @@
 -- What the definitions on the calendar say together, and days that are known.
-use Rattle.std.specs.Prelude.{◌≡◌, ℕ, ℤ, pos, neg_ℤ}
+use Rattle.std.specs.Prelude.{◌≡◌, ℕ, ◌-◌, ◌*◌, IsTrue, ℤ, pos, neg_ℤ, ◌+ℤ◌, ◌<ℤ◌, ◌≤ℤ◌}
+use Rattle.jiff_core.specs.Calendar.{IsYear, iso_year_start}
 use Rattle.jiff_core.specs.Date.{epoch_day, ordinal}
 use Rattle.jiff_core.specs.declared.civil.date.Date.{Date}
-use Rattle.col_calendar.specs.Civil.{day_of_month, iso_week_of, month_of, place_in_year}
-use Rattle.col_calendar.specs.Civil.{weekday_of_day, year_of}
+use Rattle.col_calendar.specs.Civil.{day_of_month, is_civil_day, iso_week_of, month_of}
+use Rattle.col_calendar.specs.Civil.{place_in_year, thursday_of, weekday_of_day, year_of}
 
 -- a day has this year, month, day in the month, day in the week, and week
 pub record IsKnownDay (n : ℤ) (year : ℤ) (month day weekday week : ℕ) : Type 0 where
@@ -33,3 +34,21 @@ pub record DayNumberTellsItsDate (d : Date) : Type 0 where
 -- at each date
 abbrev pub DayNumbersTellDates : Type 0
 DayNumbersTellDates = (d : Date) → DayNumberTellsItsDate d
+
+-- a day lies in this week of this year, as the standard counts them: week 1 begins on the Monday on
+-- or before 4 January, each other one 7 days after the week before it, and the year's weeks end
+-- where the next year's week 1 begins
+pub record LiesInWeek (n year : ℤ) (week : ℕ) : Type 0 where
+  pub since : (iso_year_start year +ℤ pos (7 * (week - 1))) ≤ℤ n
+  pub before : n <ℤ (iso_year_start year +ℤ pos (7 * week))
+  pub in_year : n <ℤ iso_year_start (year +ℤ pos 1)
+
+-- a day lies in the week of its number, in the year of its Thursday, and in no week of another
+-- number of any year
+pub record WeekIsCounted (n : ℤ) : Type 0 where
+  pub lies : LiesInWeek n (year_of (thursday_of n)) (iso_week_of n)
+  pub alone : (year : ℤ) (week : ℕ) → IsYear year → LiesInWeek n year week → week ≡ iso_week_of n
+
+-- so does each day that has a date
+abbrev pub WeeksAreCounted : Type 0
+WeeksAreCounted = (n : ℤ) → IsTrue (is_civil_day n) → WeekIsCounted n
