@@ -58,7 +58,7 @@ fn any_other_text_is_no_offset(rt: HostRuntime) {
 fn an_offset_is_less_than_a_day(rt: HostRuntime) {
     for seconds in [0, 86_399, -86_399] {
         let east = FixedOffset::east_opt(seconds).map(|offset| offset.local_minus_utc());
-        assert_eq!(rt; east, Some(seconds));
+        assert_eq!(rt; east, Some(seconds), "{seconds}");
     }
     for seconds in [86_400, -86_400, i32::MAX, i32::MIN] {
         assert!(rt; FixedOffset::east_opt(seconds).is_none(), "{seconds}");

@@ -96,18 +96,19 @@ fn both_days_have_a_date(rt: HostRuntime) {
 
 #[test]
 fn a_zone_is_read_before_any_row(rt: HostRuntime) {
-    for slots in [[].as_slice(), &[None], &[Some(0)], &[Some(i64::MAX)]] {
+    let cases = [
+        ("Europe/Paris", [].as_slice(), Answer::Zone),
+        ("Europe/Paris", &[None], Answer::Zone),
+        ("Europe/Paris", &[Some(0)], Answer::Zone),
+        ("Europe/Paris", &[Some(i64::MAX)], Answer::Zone),
+        ("-01:30", &[], Answer::NoRow),
+        ("-01:30", &[None], Answer::Null),
+    ];
+    for (zone, slots, wanted) in cases {
         assert_eq!(rt;
-            first_not_in(rt.alloc(), "Europe/Paris", slots, Answer::Zone),
-            None
+            first_not_in(rt.alloc(), zone, slots, wanted),
+            None,
+            "{zone} {slots:?}"
         );
     }
-    assert_eq!(rt;
-        first_not_in(rt.alloc(), "-01:30", &[], Answer::NoRow),
-        None
-    );
-    assert_eq!(rt;
-        first_not_in(rt.alloc(), "-01:30", &[None], Answer::Null),
-        None
-    );
 }

@@ -17,7 +17,7 @@ use Rattle.col_calendar.proofs.CivilLemmas.{day_number-date}
 pub known : (d t : Date) (n thursday : ℤ) (weekday place : ℕ)
     → epoch_day d ≡ n → weekday_number n ≡ weekday → epoch_day t ≡ thursday
     → n -ℤ pos weekday +ℤ pos 3 ≡ thursday → ordinal t ≡ place
-    → IsKnownDay n d.year d.month d.day (weekday + 1) (1 + (place - 1) / 7)
+    → IsKnownDay n d.year d.month d.day (weekday + 1) (1 + (place - 1) / 7) t.year
 known d t n thursday weekday place is_day is_weekday is_thursday moved is_place =
     let date = day_number-date d in
     let week : place_in_year (thursday_of n) ≡ place =
@@ -28,6 +28,7 @@ known d t n thursday weekday place is_day is_weekday is_thursday moved is_place 
       is_day = rw (← is_day) date.is_day;
       is_weekday = ap (λ w. w + 1) is_weekday;
       is_week = rw week refl;
+      is_week_of = rw (is_weekday, moved, ← is_thursday) (day_number-date t).is_year;
     }
 
 -- a date by its parts
@@ -56,6 +57,7 @@ last_thursday =
 
 -- -9999-01-01
 pub known_first : IsKnownDay (neg_ℤ (pos 4_371_587)) (neg_ℤ (pos 9_999)) 1 1 1 1
+    (neg_ℤ (pos 9_999))
 unfolding weekday_number days_of_months
 known_first =
     known (date (neg_ℤ (pos 9_999)) 1 1 (search rules))
@@ -64,28 +66,28 @@ known_first =
     days_from_civil-min refl first_thursday refl refl
 
 -- 1970-01-01
-pub known_epoch : IsKnownDay (pos 0) (pos 1_970) 1 1 4 1
+pub known_epoch : IsKnownDay (pos 0) (pos 1_970) 1 1 4 1 (pos 1_970)
 unfolding days_from_civil day_count days_of_years days_of_months weekday_number
 known_epoch =
     known (date (pos 1_970) 1 1 (search rules)) (date (pos 1_970) 1 1 (search rules))
     (pos 0) (pos 0) 3 1 refl refl refl refl refl
 
 -- 2000-02-29
-pub known_leap : IsKnownDay (pos 11_016) (pos 2_000) 2 29 2 9
+pub known_leap : IsKnownDay (pos 11_016) (pos 2_000) 2 29 2 9 (pos 2_000)
 unfolding days_from_civil day_count days_of_years days_of_months weekday_number
 known_leap =
     known (date (pos 2_000) 2 29 (search rules)) (date (pos 2_000) 3 2 (search rules))
     (pos 11_016) (pos 11_018) 1 62 refl refl refl refl refl
 
 -- 2021-01-03
-pub known_week_53 : IsKnownDay (pos 18_630) (pos 2_021) 1 3 7 53
+pub known_week_53 : IsKnownDay (pos 18_630) (pos 2_021) 1 3 7 53 (pos 2_020)
 unfolding days_from_civil day_count days_of_years days_of_months weekday_number
 known_week_53 =
     known (date (pos 2_021) 1 3 (search rules)) (date (pos 2_020) 12 31 (search rules))
     (pos 18_630) (pos 18_627) 6 366 refl refl refl refl refl
 
 -- 9999-12-31
-pub known_last : IsKnownDay (pos 2_932_896) (pos 9_999) 12 31 5 52
+pub known_last : IsKnownDay (pos 2_932_896) (pos 9_999) 12 31 5 52 (pos 9_999)
 unfolding weekday_number days_of_months
 known_last =
     known (date (pos 9_999) 12 31 (search rules)) (date (pos 9_999) 12 30 (search rules))

@@ -71,8 +71,8 @@ unfoldable pub begun : (ℕ → ℤ) → ℤ → ℕ → ℕ
 begun first n zero = 0
 begun first n (suc count) = begun first n count + (if int_le (first count) n then 1 else 0)
 
--- the year of day n: by its first day 1 year from -9999 on has begun, by its second 1 still, and so
--- on to 19999
+-- the year of day n: on -9999-01-01 the first of 19999 years has begun, on 1970-01-01 the 11970th,
+-- and on 9999-12-31 the last
 unfoldable pub year_of : ℤ → ℤ
 year_of n = pos (begun (λ k. days_from_civil (pos k -ℤ pos 9_999) 1 1) n 19_999) -ℤ pos 10_000
 

@@ -15,7 +15,7 @@ pub fn weeks_are_counted_from_4_january()
 {}
 
 /// Dates that the standards and almanacs give, from the first to the last: 1970-01-01 was a
-/// Thursday, 2000 had a 29 February, and 2021-01-03 was the Sunday of week 53.
+/// Thursday, 2000 had a 29 February, and 2021-01-03 was the Sunday of week 53 of 2020.
 ///
 /// Source: ISO 8601.
 pub fn known_days()

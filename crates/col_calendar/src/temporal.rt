@@ -18,7 +18,7 @@ use std::alloc::Global;
 /// The year of each value, negative before the year 0. Null at each null. A zoned timestamp is
 /// read in its zone's offset.
 ///
-/// Refused, in this order: `NotYetImplemented` where the array has no date or timestamp; `Zone`
+/// Refused, in this order: `NotYetImplemented` where the type is none of dates or timestamps; `Zone`
 /// where the zone is no offset text; `OutOfRange` where the day of a valid row, in UTC or by the
 /// offset, is none from -9999-01-01 to 9999-12-31.
 pub fn year(alloc: Global, array: &AnyArray) -> Result<PrimitiveArray<i32>, Error>
@@ -30,7 +30,7 @@ pub fn year(alloc: Global, array: &AnyArray) -> Result<PrimitiveArray<i32>, Erro
 /// The month of each value, 1 to 12. Null at each null. A zoned timestamp is read in its zone's
 /// offset.
 ///
-/// Refused, in this order: `NotYetImplemented` where the array has no date or timestamp; `Zone`
+/// Refused, in this order: `NotYetImplemented` where the type is none of dates or timestamps; `Zone`
 /// where the zone is no offset text; `OutOfRange` where the day of a valid row, in UTC or by the
 /// offset, is none from -9999-01-01 to 9999-12-31.
 pub fn month(alloc: Global, array: &AnyArray) -> Result<PrimitiveArray<u32>, Error>
@@ -42,7 +42,7 @@ pub fn month(alloc: Global, array: &AnyArray) -> Result<PrimitiveArray<u32>, Err
 /// The day in the month of each value, 1 to 31. Null at each null. A zoned timestamp is read in
 /// its zone's offset.
 ///
-/// Refused, in this order: `NotYetImplemented` where the array has no date or timestamp; `Zone`
+/// Refused, in this order: `NotYetImplemented` where the type is none of dates or timestamps; `Zone`
 /// where the zone is no offset text; `OutOfRange` where the day of a valid row, in UTC or by the
 /// offset, is none from -9999-01-01 to 9999-12-31.
 pub fn day(alloc: Global, array: &AnyArray) -> Result<PrimitiveArray<u32>, Error>
@@ -54,7 +54,7 @@ pub fn day(alloc: Global, array: &AnyArray) -> Result<PrimitiveArray<u32>, Error
 /// The day in the week of each value: 1 for Monday to 7 for Sunday. Null at each null. A zoned
 /// timestamp is read in its zone's offset.
 ///
-/// Refused, in this order: `NotYetImplemented` where the array has no date or timestamp; `Zone`
+/// Refused, in this order: `NotYetImplemented` where the type is none of dates or timestamps; `Zone`
 /// where the zone is no offset text; `OutOfRange` where the day of a valid row, in UTC or by the
 /// offset, is none from -9999-01-01 to 9999-12-31. Source: ISO 8601.
 pub fn weekday(alloc: Global, array: &AnyArray) -> Result<PrimitiveArray<u32>, Error>
@@ -66,7 +66,7 @@ pub fn weekday(alloc: Global, array: &AnyArray) -> Result<PrimitiveArray<u32>, E
 /// The week of each value, 1 to 53. Null at each null. A zoned timestamp is read in its zone's
 /// offset.
 ///
-/// Refused, in this order: `NotYetImplemented` where the array has no date or timestamp; `Zone`
+/// Refused, in this order: `NotYetImplemented` where the type is none of dates or timestamps; `Zone`
 /// where the zone is no offset text; `OutOfRange` where the day of a valid row, in UTC or by the
 /// offset, is none from -9999-01-01 to 9999-12-31. Source: ISO 8601.
 pub fn iso_week(alloc: Global, array: &AnyArray) -> Result<PrimitiveArray<u32>, Error>
@@ -78,9 +78,10 @@ pub fn iso_week(alloc: Global, array: &AnyArray) -> Result<PrimitiveArray<u32>, 
 /// The hour of each value, 0 to 23. Null at each null. A zoned timestamp is read in its zone's
 /// offset.
 ///
-/// Refused, in this order: `NotYetImplemented` where the array has no date, timestamp or time of
-/// day; `Zone` where the zone is no offset text; `OutOfRange` where the day of a valid row, in
-/// UTC or by the offset, is none from -9999-01-01 to 9999-12-31, or its time is not within a day.
+/// Refused, in this order: `NotYetImplemented` where the type is none of dates, timestamps or times
+/// of day that are carried; `Zone` where the zone is no offset text; `OutOfRange` where the day of
+/// a valid row, in UTC or by the offset, is none from -9999-01-01 to 9999-12-31, or its time is not
+/// within a day.
 pub fn hour(alloc: Global, array: &AnyArray) -> Result<PrimitiveArray<u32>, Error>
     ensures answer { Answers column_of result (part_answer the_hour (any_column array.now)) }
 {
@@ -90,9 +91,10 @@ pub fn hour(alloc: Global, array: &AnyArray) -> Result<PrimitiveArray<u32>, Erro
 /// The minute of the hour of each value, 0 to 59. Null at each null. A zoned timestamp is read in
 /// its zone's offset.
 ///
-/// Refused, in this order: `NotYetImplemented` where the array has no date, timestamp or time of
-/// day; `Zone` where the zone is no offset text; `OutOfRange` where the day of a valid row, in
-/// UTC or by the offset, is none from -9999-01-01 to 9999-12-31, or its time is not within a day.
+/// Refused, in this order: `NotYetImplemented` where the type is none of dates, timestamps or times
+/// of day that are carried; `Zone` where the zone is no offset text; `OutOfRange` where the day of
+/// a valid row, in UTC or by the offset, is none from -9999-01-01 to 9999-12-31, or its time is not
+/// within a day.
 pub fn minute(alloc: Global, array: &AnyArray) -> Result<PrimitiveArray<u32>, Error>
     ensures answer { Answers column_of result (part_answer the_minute (any_column array.now)) }
 {
@@ -102,9 +104,10 @@ pub fn minute(alloc: Global, array: &AnyArray) -> Result<PrimitiveArray<u32>, Er
 /// The second of the minute of each value, 0 to 59. Null at each null. A zoned timestamp is read
 /// in its zone's offset.
 ///
-/// Refused, in this order: `NotYetImplemented` where the array has no date, timestamp or time of
-/// day; `Zone` where the zone is no offset text; `OutOfRange` where the day of a valid row, in
-/// UTC or by the offset, is none from -9999-01-01 to 9999-12-31, or its time is not within a day.
+/// Refused, in this order: `NotYetImplemented` where the type is none of dates, timestamps or times
+/// of day that are carried; `Zone` where the zone is no offset text; `OutOfRange` where the day of
+/// a valid row, in UTC or by the offset, is none from -9999-01-01 to 9999-12-31, or its time is not
+/// within a day.
 pub fn second(alloc: Global, array: &AnyArray) -> Result<PrimitiveArray<u32>, Error>
     ensures answer { Answers column_of result (part_answer the_second (any_column array.now)) }
 {
@@ -114,9 +117,10 @@ pub fn second(alloc: Global, array: &AnyArray) -> Result<PrimitiveArray<u32>, Er
 /// The nanosecond of the second of each value, 0 to 999999999. Null at each null. A zoned
 /// timestamp is read in its zone's offset.
 ///
-/// Refused, in this order: `NotYetImplemented` where the array has no date, timestamp or time of
-/// day; `Zone` where the zone is no offset text; `OutOfRange` where the day of a valid row, in
-/// UTC or by the offset, is none from -9999-01-01 to 9999-12-31, or its time is not within a day.
+/// Refused, in this order: `NotYetImplemented` where the type is none of dates, timestamps or times
+/// of day that are carried; `Zone` where the zone is no offset text; `OutOfRange` where the day of
+/// a valid row, in UTC or by the offset, is none from -9999-01-01 to 9999-12-31, or its time is not
+/// within a day.
 pub fn nanosecond(alloc: Global, array: &AnyArray) -> Result<PrimitiveArray<u32>, Error>
     ensures answer { Answers column_of result (part_answer the_nanosecond (any_column array.now)) }
 {

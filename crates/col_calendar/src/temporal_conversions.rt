@@ -186,31 +186,31 @@ pub fn timestamp_s_to_datetime(seconds: i64) -> Result<DateTime, Error>
 /// The date-time so many milliseconds after 1970-01-01 00:00:00.
 ///
 /// Refused: `OutOfRange` where its day is none from -9999-01-01 to 9999-12-31.
-pub fn timestamp_ms_to_datetime(milliseconds: i64) -> Result<DateTime, Error>
-    ensures { let m = instant_of unit.Millisecond milliseconds in
+pub fn timestamp_ms_to_datetime(v: i64) -> Result<DateTime, Error>
+    ensures { let m = instant_of unit.Millisecond v in
         Converts (is_civil m) (IsDateTimeOf m) result }
 {
-    timestamp_ms_to_datetime_opt(milliseconds).ok_or(Error::OutOfRange)
+    timestamp_ms_to_datetime_opt(v).ok_or(Error::OutOfRange)
 }
 
 /// The date-time so many microseconds after 1970-01-01 00:00:00.
 ///
 /// Refused: `OutOfRange` where its day is none from -9999-01-01 to 9999-12-31.
-pub fn timestamp_us_to_datetime(microseconds: i64) -> Result<DateTime, Error>
-    ensures { let m = instant_of unit.Microsecond microseconds in
+pub fn timestamp_us_to_datetime(v: i64) -> Result<DateTime, Error>
+    ensures { let m = instant_of unit.Microsecond v in
         Converts (is_civil m) (IsDateTimeOf m) result }
 {
-    timestamp_us_to_datetime_opt(microseconds).ok_or(Error::OutOfRange)
+    timestamp_us_to_datetime_opt(v).ok_or(Error::OutOfRange)
 }
 
 /// The date-time so many nanoseconds after 1970-01-01 00:00:00.
 ///
 /// Refused: `OutOfRange` where its day is none from -9999-01-01 to 9999-12-31.
-pub fn timestamp_ns_to_datetime(nanoseconds: i64) -> Result<DateTime, Error>
-    ensures { let m = instant_of unit.Nanosecond nanoseconds in
+pub fn timestamp_ns_to_datetime(v: i64) -> Result<DateTime, Error>
+    ensures { let m = instant_of unit.Nanosecond v in
         Converts (is_civil m) (IsDateTimeOf m) result }
 {
-    timestamp_ns_to_datetime_opt(nanoseconds).ok_or(Error::OutOfRange)
+    timestamp_ns_to_datetime_opt(v).ok_or(Error::OutOfRange)
 }
 
 /// The date-time so many seconds after 1970-01-01 00:00:00; `None` where its day is none from
@@ -224,29 +224,29 @@ pub fn timestamp_s_to_datetime_opt(seconds: i64) -> Option<DateTime>
 
 /// The date-time so many milliseconds after 1970-01-01 00:00:00; `None` where its day is none from
 /// -9999-01-01 to 9999-12-31.
-pub fn timestamp_ms_to_datetime_opt(milliseconds: i64) -> Option<DateTime>
-    ensures { let m = instant_of unit.Millisecond milliseconds in
+pub fn timestamp_ms_to_datetime_opt(v: i64) -> Option<DateTime>
+    ensures { let m = instant_of unit.Millisecond v in
         ConvertsOrNone (is_civil m) (IsDateTimeOf m) result }
 {
-    datetime_of(TimeUnit::Millisecond, milliseconds)
+    datetime_of(TimeUnit::Millisecond, v)
 }
 
 /// The date-time so many microseconds after 1970-01-01 00:00:00; `None` where its day is none from
 /// -9999-01-01 to 9999-12-31.
-pub fn timestamp_us_to_datetime_opt(microseconds: i64) -> Option<DateTime>
-    ensures { let m = instant_of unit.Microsecond microseconds in
+pub fn timestamp_us_to_datetime_opt(v: i64) -> Option<DateTime>
+    ensures { let m = instant_of unit.Microsecond v in
         ConvertsOrNone (is_civil m) (IsDateTimeOf m) result }
 {
-    datetime_of(TimeUnit::Microsecond, microseconds)
+    datetime_of(TimeUnit::Microsecond, v)
 }
 
 /// The date-time so many nanoseconds after 1970-01-01 00:00:00; `None` where its day is none from
 /// -9999-01-01 to 9999-12-31.
-pub fn timestamp_ns_to_datetime_opt(nanoseconds: i64) -> Option<DateTime>
-    ensures { let m = instant_of unit.Nanosecond nanoseconds in
+pub fn timestamp_ns_to_datetime_opt(v: i64) -> Option<DateTime>
+    ensures { let m = instant_of unit.Nanosecond v in
         ConvertsOrNone (is_civil m) (IsDateTimeOf m) result }
 {
-    datetime_of(TimeUnit::Nanosecond, nanoseconds)
+    datetime_of(TimeUnit::Nanosecond, v)
 }
 
 /// The date-time so many units after 1970-01-01 00:00:00.
