@@ -4,6 +4,11 @@ use col_flat::{PrimitiveArray, PrimitiveScalar};
 use col_types::{DataType, Error, IntervalUnit, Reason, TimeUnit, days_ms};
 use std::alloc::Global;
 
+// An array of so many nulls of a type.
+fn nulls_of(alloc: Global, data_type: &DataType, count: usize) -> Result<AnyArray, Error> {
+    AnyArray::new_null(alloc, data_type.try_clone(alloc)?, count)
+}
+
 // Whether an array has so many slots of the type, all null.
 fn is_null_throughout(array: &AnyArray, data_type: &DataType, count: usize) -> bool {
     let has_type = array.data_type().equal(data_type);
@@ -11,20 +16,27 @@ fn is_null_throughout(array: &AnyArray, data_type: &DataType, count: usize) -> b
     has_type && counts == [count, count]
 }
 
-// Whether a copy of an array is equal to it.
-fn is_copied(alloc: Global, array: &AnyArray) -> Result<bool, Error> {
-    let copy = array.try_clone(alloc)?;
-    Ok(copy.equal(array))
+// Whether another array was made, and is equal to one.
+fn is_equal(array: &AnyArray, other: Result<AnyArray, Error>) -> Option<bool> {
+    match other {
+        Ok(other) => Some(array.equal(&other)),
+        Err(_) => None,
+    }
 }
 
-// Each call on nulls of a type.
-fn answers_nulls(alloc: Global, data_type: &DataType) -> Result<bool, Error> {
-    let nulls = AnyArray::new_null(alloc, data_type.try_clone(alloc)?, 3)?;
-    Ok(is_null_throughout(&nulls, data_type, 3) && is_copied(alloc, &nulls)?)
+// Whether nulls of a type are told as such, and are equal to their copy.
+fn answers_nulls(alloc: Global, data_type: &DataType) -> (bool, Option<bool>) {
+    match nulls_of(alloc, data_type, 3) {
+        Ok(nulls) => {
+            let is_told = is_null_throughout(&nulls, data_type, 3);
+            (is_told, is_equal(&nulls, nulls.try_clone(alloc)))
+        }
+        Err(_) => (false, None),
+    }
 }
 
 #[test]
-fn each_call_of_col_array_answers_with_ample_memory(rt: HostRuntime) -> Result<(), Error> {
+fn each_call_of_col_array_answers_with_ample_memory(rt: HostRuntime) {
     // a type of each native type
     let types = [
         DataType::Int8,
@@ -40,9 +52,9 @@ fn each_call_of_col_array_answers_with_ample_memory(rt: HostRuntime) -> Result<(
         DataType::Interval(IntervalUnit::MonthDayNano),
     ];
     for data_type in &types {
-        assert!(rt; answers_nulls(rt.alloc(), data_type)?, "{data_type:?}");
+        let answers = answers_nulls(rt.alloc(), data_type);
+        assert_eq!(rt; answers, (true, Some(true)), "{data_type:?}");
     }
-    Ok(())
 }
 
 #[test]
@@ -56,83 +68,114 @@ fn types_without_arrays_are_refused(rt: HostRuntime) {
         (DataType::FixedSizeBinary(0), parameters),
         (DataType::Decimal(39, 0), parameters),
     ];
-    for (data_type, wanted) in cases {
-        let refusal = AnyArray::new_null(rt.alloc(), data_type, 1).err();
-        assert_eq!(rt; refusal, Some(wanted));
+    for (data_type, wanted) in &cases {
+        let refusal = nulls_of(rt.alloc(), data_type, 1).err();
+        assert_eq!(rt; refusal, Some(*wanted), "{data_type:?}");
     }
-}
-
-// Whether an array is equal to two nulls of a type.
-fn are_nulls(alloc: Global, array: &AnyArray, data_type: &DataType) -> Result<bool, Error> {
-    let data_type = data_type.try_clone(alloc)?;
-    let nulls = AnyArray::new_null(alloc, data_type, 2)?;
-    Ok(array.equal(&nulls))
 }
 
 // Whether two nulls of one type are equal to two nulls of another.
-fn are_equal(alloc: Global, lhs: &DataType, rhs: &DataType) -> Result<bool, Error> {
-    let nulls = AnyArray::new_null(alloc, lhs.try_clone(alloc)?, 2)?;
-    are_nulls(alloc, &nulls, rhs)
+fn are_equal(alloc: Global, lhs: &DataType, rhs: &DataType) -> Option<bool> {
+    match nulls_of(alloc, lhs, 2) {
+        Ok(nulls) => is_equal(&nulls, nulls_of(alloc, rhs, 2)),
+        Err(_) => None,
+    }
 }
 
 #[test]
-fn arrays_are_told_apart_by_type(rt: HostRuntime) -> Result<(), Error> {
+fn arrays_are_told_apart_by_type(rt: HostRuntime) {
     let types = [DataType::Int64, DataType::Date64, DataType::UInt64];
     for (i, lhs) in types.iter().enumerate() {
         for (j, rhs) in types.iter().enumerate() {
-            let answer = are_equal(rt.alloc(), lhs, rhs)?;
-            assert_eq!(rt; answer, i == j, "{lhs:?} and {rhs:?}");
+            let answer = are_equal(rt.alloc(), lhs, rhs);
+            assert_eq!(rt; answer, Some(i == j), "{lhs:?} and {rhs:?}");
         }
     }
-    Ok(())
 }
 
-// Whether one slot of a native type is a valid slot of an array of any type.
-fn is_one_slot(array: AnyArray) -> bool {
-    array.len() == 1 && array.null_count() == 0
+// The slots of an array of any type, and how many of them are null.
+fn counts(array: AnyArray) -> (usize, usize) {
+    (array.len(), array.null_count())
 }
 
-#[test]
-fn typed_arrays_are_arrays_of_any_type(rt: HostRuntime) -> Result<(), Error> {
-    let number = PrimitiveArray::from_options(rt.alloc(), DataType::UInt8, &[Some(7u8)])?;
-    assert!(rt; is_one_slot(AnyArray::from(number)), "a number");
+// The counts of an array of two numbers and a null.
+fn counts_of_numbers(alloc: Global) -> Result<(usize, usize), Error> {
+    let slots = [Some(7u8), None, Some(9)];
+    let array = PrimitiveArray::from_options(alloc, DataType::UInt8, &slots)?;
+    Ok(counts(AnyArray::from(array)))
+}
+
+// The counts of an array of a span.
+fn counts_of_spans(alloc: Global) -> Result<(usize, usize), Error> {
     let data_type = DataType::Interval(IntervalUnit::DayTime);
-    let span = PrimitiveArray::from_options(rt.alloc(), data_type, &[Some(days_ms::new(0, 2))])?;
-    assert!(rt; is_one_slot(AnyArray::from(span)), "a span");
-    Ok(())
-}
-
-// Whether a scalar is equal to its copy, and not to another one.
-fn is_itself(alloc: Global, scalar: &AnyScalar, other: &AnyScalar) -> Result<bool, Error> {
-    let copy = scalar.try_clone(alloc)?;
-    let is_copy = copy.equal(scalar) && copy.data_type().equal(scalar.data_type());
-    Ok(is_copy && copy.is_valid() == scalar.is_valid() && !copy.equal(other))
-}
-
-// A scalar of 64 bits.
-fn long(value: Option<i64>) -> Result<AnyScalar, Error> {
-    Ok(AnyScalar::Int64(PrimitiveScalar::new(DataType::Int64, value)?))
-}
-
-// A scalar of a byte.
-fn short(value: Option<u8>) -> Result<AnyScalar, Error> {
-    Ok(AnyScalar::UInt8(PrimitiveScalar::new(DataType::UInt8, value)?))
+    let array = PrimitiveArray::from_options(alloc, data_type, &[Some(days_ms::new(0, 2))])?;
+    Ok(counts(AnyArray::from(array)))
 }
 
 #[test]
-fn scalars_are_equal_where_types_and_values_are(rt: HostRuntime) -> Result<(), Error> {
-    let alloc = rt.alloc();
-    let cases = [
-        (long(Some(5))?, long(None)?),
-        (long(None)?, short(None)?),
-        (short(Some(5))?, long(Some(5))?),
-    ];
-    for (row, (scalar, other)) in cases.iter().enumerate() {
-        assert!(rt; is_itself(alloc, scalar, other)?, "case {row}");
-        assert!(rt;
-            is_itself(alloc, other, scalar)?,
-            "case {row}, turned round"
-        );
+fn typed_arrays_are_arrays_of_any_type(rt: HostRuntime) {
+    assert_eq!(rt; counts_of_numbers(rt.alloc()), Ok((3, 1)), "numbers");
+    assert_eq!(rt; counts_of_spans(rt.alloc()), Ok((1, 0)), "a span");
+}
+
+// A scalar.
+#[derive(Clone, Copy, Debug)]
+enum Value {
+    Long(Option<i64>),
+    Byte(Option<u8>),
+}
+
+fn scalar_of(value: Value) -> Result<AnyScalar, Error> {
+    match value {
+        Value::Long(value) => {
+            Ok(AnyScalar::Int64(PrimitiveScalar::new(DataType::Int64, value)?))
+        }
+        Value::Byte(value) => {
+            Ok(AnyScalar::UInt8(PrimitiveScalar::new(DataType::UInt8, value)?))
+        }
     }
-    Ok(())
+}
+
+// Whether another scalar was made, and has the type, the validity and the value of one.
+fn is_same(scalar: &AnyScalar, other: Result<AnyScalar, Error>) -> Option<[bool; 3]> {
+    match other {
+        Ok(other) => Some([
+            other.data_type().equal(scalar.data_type()),
+            other.is_valid() == scalar.is_valid(),
+            other.equal(scalar),
+        ]),
+        Err(_) => None,
+    }
+}
+
+fn is_copied(alloc: Global, value: Value) -> Option<[bool; 3]> {
+    match scalar_of(value) {
+        Ok(scalar) => is_same(&scalar, scalar.try_clone(alloc)),
+        Err(_) => None,
+    }
+}
+
+fn are_same(lhs: Value, rhs: Value) -> Option<[bool; 3]> {
+    match scalar_of(lhs) {
+        Ok(lhs) => is_same(&lhs, scalar_of(rhs)),
+        Err(_) => None,
+    }
+}
+
+#[test]
+fn scalars_are_equal_where_types_and_values_are(rt: HostRuntime) {
+    // two scalars, and whether they have one type, and are both valid or both null
+    let cases = [
+        (Value::Long(Some(5)), Value::Long(None), true, false),
+        (Value::Long(Some(5)), Value::Long(Some(6)), true, true),
+        (Value::Long(None), Value::Byte(None), false, true),
+        (Value::Byte(Some(5)), Value::Long(Some(5)), false, true),
+    ];
+    for (lhs, rhs, has_type, has_validity) in cases {
+        let wanted = Some([has_type, has_validity, false]);
+        assert_eq!(rt; are_same(lhs, rhs), wanted, "{lhs:?} and {rhs:?}");
+        assert_eq!(rt; are_same(rhs, lhs), wanted, "{rhs:?} and {lhs:?}");
+        assert_eq!(rt; is_copied(rt.alloc(), lhs), Some([true; 3]), "{lhs:?}");
+        assert_eq!(rt; is_copied(rt.alloc(), rhs), Some([true; 3]), "{rhs:?}");
+    }
 }

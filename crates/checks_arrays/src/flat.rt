@@ -25,22 +25,56 @@ fn mask_of(alloc: Global, mask: &str) -> Result<Bitmap, Error> {
     Bitmap::from_bools(alloc, flags.as_slice())
 }
 
-// Whether the slots of an array are these, as each reader tells them.
-fn has_slots<T: NativeType>(array: &PrimitiveArray<T>, slots: &[Option<T>]) -> bool {
-    if array.len() != slots.len() {
-        return false;
+// Numbers beneath a mask, where there is one.
+fn masked(
+    data_type: DataType,
+    values: Result<Buffer<i64>, Error>,
+    mask: Option<Result<Bitmap, Error>>,
+) -> Result<Numbers, Error> {
+    match (values, mask) {
+        (Ok(values), Some(Ok(mask))) => PrimitiveArray::try_new(data_type, values, Some(mask)),
+        (Ok(values), None) => PrimitiveArray::try_new(data_type, values, None),
+        _ => Err(Error::Memory),
     }
-    let mut nulls: usize = 0;
-    let mut same = true;
-    let mut rows = array.iter();
-    for i in 0..array.len() {
-        same = same && array.get(i) == slots[i] && rows.next() == Some(slots[i]);
-        same = same && array.is_valid(i) == slots[i].is_some();
-        if slots[i].is_none() {
-            nulls = nulls.wrapping_add(1);
+}
+
+// How many slots are null.
+fn null_count<T: NativeType>(slots: &[Option<T>]) -> usize {
+    let mut count: usize = 0;
+    for slot in slots {
+        if slot.is_none() {
+            count = count.saturating_add(1);
         }
     }
-    same && array.null_count() == nulls && rows.next() == None
+    count
+}
+
+// Whether an array tells these slots one by one.
+fn tells<T: NativeType>(array: &PrimitiveArray<T>, slots: &[Option<T>]) -> bool {
+    for i in 0..array.len() {
+        match slots.get(i) {
+            Some(slot) if array.get(i) == *slot && array.is_valid(i) == slot.is_some() => {}
+            _ => return false,
+        }
+    }
+    true
+}
+
+// Whether its iterator gives them.
+fn gives<T: NativeType>(array: &PrimitiveArray<T>, slots: &[Option<T>]) -> bool {
+    let mut rows = array.iter();
+    for slot in slots {
+        if rows.next() != Some(*slot) {
+            return false;
+        }
+    }
+    rows.next().is_none()
+}
+
+// Whether the slots of an array are these, as each reader tells them.
+fn has_slots<T: NativeType>(array: &PrimitiveArray<T>, slots: &[Option<T>]) -> bool {
+    let counts = [array.len(), array.null_count()];
+    counts == [slots.len(), null_count(slots)] && tells(array, slots) && gives(array, slots)
 }
 
 // An array of these slots.
@@ -52,141 +86,218 @@ fn typed<T: NativeType>(
     PrimitiveArray::from_options(alloc, data_type.try_clone(alloc)?, slots)
 }
 
-// Whether a copy of an array has these slots, and a cut of the copy those from row 1 on.
-fn is_copied<T: NativeType>(
+// An array of nulls.
+fn nulls_of<T: NativeType>(
     alloc: Global,
-    array: &PrimitiveArray<T>,
-    slots: &[Option<T>],
-) -> Result<bool, Error> {
-    let copy = array.try_clone(alloc)?;
-    let is_same = copy.equal(array) && has_slots(&copy, slots);
-    if copy.len() != 3 || slots.len() != 3 {
-        return Ok(false);
-    }
-    Ok(is_same && has_slots(&copy.sliced(1, 2), &slots[1..]))
-}
-
-// Whether nulls of a type are null, and no array of these slots.
-fn are_nulls<T: NativeType>(
-    alloc: Global,
-    array: &PrimitiveArray<T>,
     data_type: &DataType,
-) -> Result<bool, Error> {
-    let nulls = PrimitiveArray::<T>::new_null(alloc, data_type.try_clone(alloc)?, 3)?;
-    Ok(nulls.null_count() == 3 && nulls.data_type().equal(data_type) && !nulls.equal(array))
+    count: usize,
+) -> Result<PrimitiveArray<T>, Error> {
+    PrimitiveArray::new_null(alloc, data_type.try_clone(alloc)?, count)
 }
 
-// Whether a scalar has its value, and is equal to its copy.
-fn is_scalar<T: NativeType>(
+// Whether another array was made, and is equal to one.
+fn is_equal<T: NativeType>(
+    array: &PrimitiveArray<T>,
+    other: Result<PrimitiveArray<T>, Error>,
+) -> Option<bool> {
+    match other {
+        Ok(other) => Some(array.equal(&other)),
+        Err(_) => None,
+    }
+}
+
+// Whether an array that was made has these slots.
+fn is_made<T: NativeType>(made: Result<PrimitiveArray<T>, Error>, slots: &[Option<T>]) -> bool {
+    match made {
+        Ok(array) => has_slots(&array, slots),
+        Err(_) => false,
+    }
+}
+
+// The cut of an array that was made from row 1 on.
+fn cut_of<T: NativeType>(
+    made: Result<PrimitiveArray<T>, Error>,
+) -> Result<PrimitiveArray<T>, Error> {
+    match made {
+        Ok(array) => {
+            let count = array.len();
+            if count == 0 {
+                return Err(Error::OutOfSpec);
+            }
+            Ok(array.sliced(1, count - 1))
+        }
+        Err(error) => Err(error),
+    }
+}
+
+// Whether an array has its slots, is equal to its copy and to no nulls, and is cut.
+fn answers<T: NativeType>(alloc: Global, data_type: &DataType, slots: &[Option<T>; 3]) -> bool {
+    match typed(alloc, data_type, slots) {
+        Ok(array) => {
+            has_slots(&array, slots)
+                && array.data_type().equal(data_type)
+                && is_made(array.try_clone(alloc), slots)
+                && is_equal(&array, array.try_clone(alloc)) == Some(true)
+                && is_equal(&array, nulls_of(alloc, data_type, 3)) == Some(false)
+                && is_made(cut_of(array.try_clone(alloc)), &slots[1..])
+        }
+        Err(_) => false,
+    }
+}
+
+// A scalar.
+fn scalar_of<T: NativeType>(
     alloc: Global,
     data_type: &DataType,
     value: Option<T>,
-) -> Result<bool, Error> {
-    let scalar = PrimitiveScalar::new(data_type.try_clone(alloc)?, value)?;
-    let has_value = scalar.value() == value && scalar.is_valid() == value.is_some();
-    Ok(has_value && scalar.equal(&scalar.try_clone(alloc)?))
+) -> Result<PrimitiveScalar<T>, Error> {
+    PrimitiveScalar::new(data_type.try_clone(alloc)?, value)
 }
 
-// Each call on arrays of these slots and on scalars of the first two.
-fn answers_all<T: NativeType>(
-    alloc: Global,
-    data_type: &DataType,
-    slots: &[Option<T>; 3],
-) -> Result<[bool; 4], Error> {
-    let array = typed(alloc, data_type, slots)?;
-    Ok([
-        is_copied(alloc, &array, slots)?,
-        are_nulls(alloc, &array, data_type)?,
-        is_scalar(alloc, data_type, slots[0])?,
-        is_scalar(alloc, data_type, slots[1])?,
-    ])
+// Whether a copy was made, and is equal to a scalar.
+fn is_copy<T: NativeType>(
+    scalar: &PrimitiveScalar<T>,
+    copy: Result<PrimitiveScalar<T>, Error>,
+) -> bool {
+    match copy {
+        Ok(copy) => scalar.equal(&copy),
+        Err(_) => false,
+    }
+}
+
+// Whether a scalar has its value, and is equal to its copy.
+fn scalar_answers<T: NativeType>(alloc: Global, data_type: &DataType, value: Option<T>) -> bool {
+    match scalar_of(alloc, data_type, value) {
+        Ok(scalar) => {
+            scalar.value() == value
+                && scalar.is_valid() == value.is_some()
+                && is_copy(&scalar, scalar.try_clone(alloc))
+        }
+        Err(_) => false,
+    }
 }
 
 #[test]
-fn each_call_of_col_flat_answers_with_ample_memory(rt: HostRuntime) -> Result<(), Error> {
+fn each_call_of_col_flat_answers_with_ample_memory(rt: HostRuntime) {
     let alloc = rt.alloc();
-    let data_type = DataType::Int8;
-    let answers = answers_all(alloc, &data_type, &[Some(i8::MIN), None, Some(1)])?;
-    assert_eq!(rt; answers, [true; 4], "bytes");
-    let data_type = DataType::Interval(IntervalUnit::MonthDayNano);
+    let byte = DataType::Int8;
+    assert!(rt;
+        answers(alloc, &byte, &[Some(i8::MIN), None, Some(1)]),
+        "bytes"
+    );
+    assert!(rt; scalar_answers(alloc, &byte, Some(i8::MIN)), "a byte");
+    assert!(rt; scalar_answers::<i8>(alloc, &byte, None), "a null of bytes");
+    let interval = DataType::Interval(IntervalUnit::MonthDayNano);
     let span = months_days_ns::new(1, -2, 3);
-    let answers = answers_all(alloc, &data_type, &[None, Some(span), Some(span)])?;
-    assert_eq!(rt; answers, [true; 4], "spans");
-    Ok(())
+    assert!(rt;
+        answers(alloc, &interval, &[None, Some(span), Some(span)]),
+        "spans"
+    );
+    assert!(rt; scalar_answers(alloc, &interval, Some(span)), "a span");
 }
 
-#[test]
-fn slots_that_are_pushed_make_an_array(rt: HostRuntime) -> Result<(), Error> {
-    let alloc = rt.alloc();
+// An array of 7 and a null, pushed one by one.
+fn pushed(alloc: Global) -> Result<Numbers, Error> {
     let mut slots = MutablePrimitiveArray::with_capacity(alloc, 1)?;
     slots.push(Some(7))?;
     slots.push(None)?;
-    let array = slots.into_array(alloc, DataType::Int64)?;
-    assert!(rt; has_slots(&array, &[Some(7i64), None]), "7 and a null");
-    Ok(())
+    slots.into_array(alloc, DataType::Int64)
+}
+
+#[test]
+fn slots_that_are_pushed_make_an_array(rt: HostRuntime) {
+    assert!(rt;
+        is_made(pushed(rt.alloc()), &[Some(7), None]),
+        "7 and a null"
+    );
+}
+
+// How many flags of a combined mask are false, where there is a mask.
+fn unset_of(mask: Result<Option<Bitmap>, Error>) -> Result<Option<usize>, Error> {
+    match mask {
+        Ok(Some(mask)) => Ok(Some(mask.unset_bits())),
+        Ok(None) => Ok(None),
+        Err(error) => Err(error),
+    }
+}
+
+// The same of one mask, where there is one, beside none, on the left and on the right.
+fn unset_beside_none(alloc: Global, mask: &Bitmap) -> [Result<Option<usize>, Error>; 2] {
+    [
+        unset_of(combine_validities(alloc, Some(mask), None)),
+        unset_of(combine_validities(alloc, None, Some(mask))),
+    ]
+}
+
+// The same of two masks.
+fn unset_of_both(alloc: Global, lhs: &Bitmap, rhs: &Bitmap) -> Result<Option<usize>, Error> {
+    if lhs.len() != rhs.len() {
+        return Err(Error::OutOfSpec);
+    }
+    unset_of(combine_validities(alloc, Some(lhs), Some(rhs)))
 }
 
 #[test]
 fn masks_are_combined_where_there_are_any(rt: HostRuntime) -> Result<(), Error> {
-    let alloc = rt.alloc();
-    let left = mask_of(alloc, "0011")?;
-    let right = mask_of(alloc, "0101")?;
-    assert_eq!(rt; (left.len(), right.len()), (4, 4));
-    let cases = [
-        (None, None, None),
-        (Some(&left), None, Some(2)),
-        (None, Some(&right), Some(2)),
-        (Some(&left), Some(&right), Some(3)),
-    ];
-    for (lhs, rhs, unset) in cases {
-        let mask = combine_validities(alloc, lhs, rhs)?;
-        let count = match &mask {
-            Some(mask) => Some(mask.unset_bits()),
-            None => None,
-        };
-        assert_eq!(rt; count, unset, "{unset:?} unset");
-    }
+    let left = mask_of(rt.alloc(), "0011")?;
+    let right = mask_of(rt.alloc(), "0101")?;
+    assert_eq!(rt;
+        unset_of(combine_validities(rt.alloc(), None, None)),
+        Ok(None),
+        "none"
+    );
+    assert_eq!(rt;
+        unset_beside_none(rt.alloc(), &left),
+        [Ok(Some(2)); 2],
+        "one"
+    );
+    assert_eq!(rt;
+        unset_of_both(rt.alloc(), &left, &right),
+        Ok(Some(3)),
+        "both"
+    );
     Ok(())
 }
 
-#[test]
-fn where_no_flag_is_false_there_is_no_mask(rt: HostRuntime) -> Result<(), Error> {
-    let alloc = rt.alloc();
-    for (flags, is_masked) in [([true, true], false), ([true, false], true)] {
-        let values = vec![in alloc; 7i64, 8]?;
-        let array = PrimitiveArray::from_flags(alloc, DataType::Int64, values, &flags)?;
-        assert_eq!(rt; array.validity().is_some(), is_masked, "{flags:?}");
-        assert_eq!(rt; array.null_count(), usize::from(is_masked), "{flags:?}");
-    }
-    Ok(())
+// Whether an array of two values beneath these flags has a mask, and how many nulls.
+fn mask_of_flags(alloc: Global, flags: &[bool; 2]) -> Result<(bool, usize), Error> {
+    let values = vec![in alloc; 7i64, 8]?;
+    let array = PrimitiveArray::from_flags(alloc, DataType::Int64, values, flags)?;
+    Ok((array.validity().is_some(), array.null_count()))
 }
 
 #[test]
-fn a_cut_of_a_cut_has_the_slots_from_its_row_on(rt: HostRuntime) -> Result<(), Error> {
+fn where_no_flag_is_false_there_is_no_mask(rt: HostRuntime) {
+    let cases = [([true, true], (false, 0)), ([true, false], (true, 1))];
+    for (flags, wanted) in cases {
+        assert_eq!(rt; mask_of_flags(rt.alloc(), &flags), Ok(wanted), "{flags:?}");
+    }
+}
+
+#[test]
+fn a_cut_of_a_cut_has_the_slots_from_its_row_on(rt: HostRuntime) {
     let slots = [Some(7), None, Some(9), Some(10)];
-    let array = array_of(rt.alloc(), &slots)?;
-    assert!(rt; array.len() == 4);
-    let cut = array.sliced(1, 3);
-    assert!(rt; has_slots(&cut, &slots[1..]), "from row 1 on");
-    assert!(rt; cut.len() == 3);
-    assert!(rt; has_slots(&cut.sliced(1, 1), &[Some(9)]), "a cut of a cut");
-    Ok(())
+    let cut = cut_of(array_of(rt.alloc(), &slots));
+    assert!(rt; is_made(cut, &slots[1..]), "from row 1 on");
+    let cut = cut_of(cut_of(array_of(rt.alloc(), &slots)));
+    assert!(rt; is_made(cut, &slots[2..]), "from row 2 on");
 }
 
-// Whether an array is equal to one of these values beneath a mask.
-fn is_equal(alloc: Global, array: &Numbers, values: &[i64], mask: &str) -> Result<bool, Error> {
-    let values = buffer_of(alloc, values)?;
-    let other = match mask_of(alloc, mask) {
-        Ok(mask) => PrimitiveArray::try_new(DataType::Int64, values, Some(mask))?,
-        Err(error) => return Err(error),
-    };
-    Ok(array.equal(&other))
+// Whether 1, a null and 3 are equal to these values beneath a mask.
+fn are_equal(alloc: Global, values: &[i64], mask: &str) -> Option<bool> {
+    let other = masked(
+        DataType::Int64,
+        buffer_of(alloc, values),
+        Some(mask_of(alloc, mask)),
+    );
+    match array_of(alloc, &[Some(1), None, Some(3)]) {
+        Ok(array) => is_equal(&array, other),
+        Err(_) => None,
+    }
 }
 
 #[test]
-fn arrays_are_equal_where_types_and_slots_are(rt: HostRuntime) -> Result<(), Error> {
-    let slots = [Some(1), None, Some(3)];
-    let array = array_of(rt.alloc(), &slots)?;
+fn arrays_are_equal_where_slots_are(rt: HostRuntime) {
     let cases = [
         ([1, 0, 3].as_slice(), "101", true),
         ([1, -5, 3].as_slice(), "101", true),
@@ -197,43 +308,50 @@ fn arrays_are_equal_where_types_and_slots_are(rt: HostRuntime) -> Result<(), Err
         ([1, 5, 3, 0].as_slice(), "1010", false),
     ];
     for (values, mask, wanted) in cases {
-        let answer = is_equal(rt.alloc(), &array, values, mask)?;
-        assert_eq!(rt; answer, wanted, "{values:?} beneath {mask}");
+        let answer = are_equal(rt.alloc(), values, mask);
+        assert_eq!(rt; answer, Some(wanted), "{values:?} beneath {mask}");
     }
-    let span = array_of(rt.alloc(), &slots)?.to(DataType::Duration(TimeUnit::Second))?;
-    assert!(rt; !array.equal(&span), "of another type");
-    Ok(())
 }
 
-// The refusal of two numbers, beneath a mask where there is one.
-fn refusal_of(
-    alloc: Global,
-    data_type: &DataType,
-    mask: Option<&str>,
-) -> Result<Option<Error>, Error> {
-    let data_type = data_type.try_clone(alloc)?;
-    let values = buffer_of(alloc, &[7, 8])?;
-    let array = match mask {
-        Some(mask) => PrimitiveArray::try_new(data_type, values, Some(mask_of(alloc, mask)?)),
-        None => PrimitiveArray::try_new(data_type, values, None),
-    };
-    Ok(array.err())
-}
-
-// The refusal of an array of nulls.
-fn refusal_of_nulls(alloc: Global, data_type: &DataType) -> Result<Option<Error>, Error> {
-    Ok(Numbers::new_null(alloc, data_type.try_clone(alloc)?, 1).err())
-}
-
-// The refusal of an array of numbers that is to have another type.
-fn refusal_of_other(alloc: Global, data_type: &DataType) -> Result<Option<Error>, Error> {
-    let other = data_type.try_clone(alloc)?;
-    Ok(array_of(alloc, &[Some(1)])?.to(other).err())
+// An array under another type.
+fn under(made: Result<Numbers, Error>, data_type: DataType) -> Result<Numbers, Error> {
+    match made {
+        Ok(array) => array.to(data_type),
+        Err(error) => Err(error),
+    }
 }
 
 #[test]
-fn types_of_other_arrays_are_refused(rt: HostRuntime) -> Result<(), Error> {
-    let alloc = rt.alloc();
+fn arrays_of_two_types_differ(rt: HostRuntime) -> Result<(), Error> {
+    let slots = [Some(1), None];
+    let array = array_of(rt.alloc(), &slots)?;
+    let span = under(
+        array_of(rt.alloc(), &slots),
+        DataType::Duration(TimeUnit::Second),
+    );
+    assert_eq!(rt;
+        is_equal(&array, span),
+        Some(false),
+        "numbers and a duration"
+    );
+    Ok(())
+}
+
+// The refusals of a number, of a null, and of a number that is to have another type.
+fn refusals_of(alloc: Global, data_type: &DataType) -> [Option<Error>; 3] {
+    let other = match data_type.try_clone(alloc) {
+        Ok(other) => under(array_of(alloc, &[Some(1)]), other),
+        Err(error) => Err(Error::from(error)),
+    };
+    [
+        typed(alloc, data_type, &[Some(1i64)]).err(),
+        nulls_of::<i64>(alloc, data_type, 1).err(),
+        other.err(),
+    ]
+}
+
+#[test]
+fn types_of_other_arrays_are_refused(rt: HostRuntime) {
     let cases = [
         (DataType::Int64, None),
         (DataType::Timestamp(TimeUnit::Second, None), None),
@@ -244,16 +362,29 @@ fn types_of_other_arrays_are_refused(rt: HostRuntime) -> Result<(), Error> {
         (DataType::FixedSizeBinary(0), Some(PARAMETERS)),
     ];
     for (data_type, wanted) in &cases {
-        let slots = typed(alloc, data_type, &[Some(1i64)]).err();
-        let nulls = refusal_of_nulls(alloc, data_type)?;
-        let other = refusal_of_other(alloc, data_type)?;
-        assert_eq!(rt; [slots, nulls, other], [*wanted; 3], "{data_type:?}");
+        assert_eq!(rt;
+            refusals_of(rt.alloc(), data_type),
+            [*wanted; 3],
+            "{data_type:?}"
+        );
     }
-    Ok(())
+}
+
+// The refusal of two numbers, beneath a mask where there is one.
+fn refusal_of(alloc: Global, data_type: &DataType, mask: Option<&str>) -> Option<Error> {
+    let values = buffer_of(alloc, &[7, 8]);
+    let mask = match mask {
+        Some(mask) => Some(mask_of(alloc, mask)),
+        None => None,
+    };
+    match data_type.try_clone(alloc) {
+        Ok(data_type) => masked(data_type, values, mask).err(),
+        Err(error) => Some(Error::from(error)),
+    }
 }
 
 #[test]
-fn a_mask_of_another_length_is_refused_after_parameters(rt: HostRuntime) -> Result<(), Error> {
+fn a_mask_of_another_length_is_refused_after_parameters(rt: HostRuntime) {
     let cases = [
         (DataType::Int64, None, None),
         (DataType::Int64, Some("01"), None),
@@ -262,8 +393,7 @@ fn a_mask_of_another_length_is_refused_after_parameters(rt: HostRuntime) -> Resu
         (DataType::Decimal(1, 2), Some("110"), Some(PARAMETERS)),
     ];
     for (data_type, mask, wanted) in &cases {
-        let refusal = refusal_of(rt.alloc(), data_type, *mask)?;
+        let refusal = refusal_of(rt.alloc(), data_type, *mask);
         assert_eq!(rt; refusal, *wanted, "{data_type:?} beneath {mask:?}");
     }
-    Ok(())
 }
