@@ -2,6 +2,12 @@
 #![tactic(auto)]
 
 #[cfg(test)]
+mod answers;
+#[cfg(test)]
+mod decimal_trees;
+#[cfg(test)]
+mod decimals;
+#[cfg(test)]
 mod eval;
 #[cfg(test)]
 mod steps;
