@@ -122,27 +122,33 @@ pub(crate) enum Kernel {
 pub(crate) const KERNELS: [Kernel; 4] = [Kernel::Add, Kernel::Sub, Kernel::Mul, Kernel::Div];
 
 // What a kernel answers for two arrays, of which the left one is of a type.
-fn answer_of(alloc: Global, kernel: Kernel, kind: Kind, lhs: AnyArray, rhs: AnyArray) -> Answer {
+fn answer_of(alloc: Global, kernel: Kernel, kind: Kind, lhs: &AnyArray, rhs: &AnyArray) -> Answer {
     match kernel {
-        Kernel::Add => told(kind, add(alloc, &lhs, &rhs)),
-        Kernel::Sub => told(kind, sub(alloc, &lhs, &rhs)),
-        Kernel::Mul => told(kind, mul(alloc, &lhs, &rhs)),
-        Kernel::Div => told(kind, div(alloc, &lhs, &rhs)),
+        Kernel::Add => told(kind, add(alloc, lhs, rhs)),
+        Kernel::Sub => told(kind, sub(alloc, lhs, rhs)),
+        Kernel::Mul => told(kind, mul(alloc, lhs, rhs)),
+        Kernel::Div => told(kind, div(alloc, lhs, rhs)),
     }
 }
 
 // What its twin answers for an array of a type and a scalar.
-fn answer_with(alloc: Global, kernel: Kernel, kind: Kind, lhs: AnyArray, rhs: AnyScalar) -> Answer {
+fn answer_with(
+    alloc: Global,
+    kernel: Kernel,
+    kind: Kind,
+    lhs: &AnyArray,
+    rhs: &AnyScalar,
+) -> Answer {
     match kernel {
-        Kernel::Add => told(kind, add_scalar(alloc, &lhs, &rhs)),
-        Kernel::Sub => told(kind, sub_scalar(alloc, &lhs, &rhs)),
-        Kernel::Mul => told(kind, mul_scalar(alloc, &lhs, &rhs)),
-        Kernel::Div => told(kind, div_scalar(alloc, &lhs, &rhs)),
+        Kernel::Add => told(kind, add_scalar(alloc, lhs, rhs)),
+        Kernel::Sub => told(kind, sub_scalar(alloc, lhs, rhs)),
+        Kernel::Mul => told(kind, mul_scalar(alloc, lhs, rhs)),
+        Kernel::Div => told(kind, div_scalar(alloc, lhs, rhs)),
     }
 }
 
-fn remainders_of(alloc: Global, kind: Kind, lhs: AnyArray, rhs: AnyArray) -> Answer {
-    told(kind, rem(alloc, &lhs, &rhs))
+fn remainders_of(alloc: Global, kind: Kind, lhs: &AnyArray, rhs: &AnyArray) -> Answer {
+    told(kind, rem(alloc, lhs, rhs))
 }
 
 fn array_of(alloc: Global, column: Column) -> Result<AnyArray, Error> {
@@ -171,7 +177,7 @@ fn scalar_of(kind: Kind, slot: Slot) -> Result<AnyScalar, Error> {
 // What a kernel answers for two columns.
 pub(crate) fn kernel_answer(alloc: Global, kernel: Kernel, lhs: Column, rhs: Column) -> Answer {
     match (array_of(alloc, lhs), array_of(alloc, rhs)) {
-        (Ok(left), Ok(right)) => answer_of(alloc, kernel, lhs.kind, left, right),
+        (Ok(left), Ok(right)) => answer_of(alloc, kernel, lhs.kind, &left, &right),
         _ => Answer::Other,
     }
 }
@@ -185,7 +191,7 @@ pub(crate) fn scalar_answer(
     slot: Slot,
 ) -> Answer {
     match (array_of(alloc, lhs), scalar_of(kind, slot)) {
-        (Ok(left), Ok(right)) => answer_with(alloc, kernel, lhs.kind, left, right),
+        (Ok(left), Ok(right)) => answer_with(alloc, kernel, lhs.kind, &left, &right),
         _ => Answer::Other,
     }
 }
@@ -193,7 +199,7 @@ pub(crate) fn scalar_answer(
 // What `rem` answers for two columns.
 pub(crate) fn remainders(alloc: Global, lhs: Column, rhs: Column) -> Answer {
     match (array_of(alloc, lhs), array_of(alloc, rhs)) {
-        (Ok(left), Ok(right)) => remainders_of(alloc, lhs.kind, left, right),
+        (Ok(left), Ok(right)) => remainders_of(alloc, lhs.kind, &left, &right),
         _ => Answer::Other,
     }
 }
@@ -207,11 +213,11 @@ pub(crate) enum Call {
 }
 
 // What a call answers for a table and a tree, of which a type is wanted.
-fn tree_answer(alloc: Global, call: Call, kind: Kind, table: Table, tree: Expr) -> Answer {
+fn tree_answer(alloc: Global, call: Call, kind: Kind, table: &Table, tree: &Expr) -> Answer {
     match call {
-        Call::TypedOf => told_type(kind, typed_of(alloc, &table, &tree)),
-        Call::Evaluate => told(kind, evaluate(alloc, &table, &tree)),
-        Call::Law => told(kind, unrefused_tables_have_columns(alloc, &table, &tree)),
+        Call::TypedOf => told_type(kind, typed_of(alloc, table, tree)),
+        Call::Evaluate => told(kind, evaluate(alloc, table, tree)),
+        Call::Law => told(kind, unrefused_tables_have_columns(alloc, table, tree)),
     }
 }
 
@@ -282,7 +288,7 @@ pub(crate) fn call_answer(
     shape: Shape,
 ) -> Answer {
     match (table_made(alloc, lhs, rhs), tree_made(alloc, shape)) {
-        (Ok(table), Ok(tree)) => tree_answer(alloc, call, lhs.kind, table, tree),
+        (Ok(table), Ok(tree)) => tree_answer(alloc, call, lhs.kind, &table, &tree),
         _ => Answer::Other,
     }
 }
