@@ -115,63 +115,64 @@ fn lone<T: NativeNegate>(answer: Result<PrimitiveArray<T>, Error>) -> Result<Opt
     }
 }
 
-// The plain negative of an interval.
+// The plain negative of the slot of one interval.
 fn negative<T: NativeNegate>(
     alloc: Global,
     unit: IntervalUnit,
-    value: T,
+    slots: &[Option<T>],
 ) -> Result<Option<T>, Error> {
-    match PrimitiveArray::from_options(alloc, DataType::Interval(unit), &[Some(value)]) {
+    match PrimitiveArray::from_options(alloc, DataType::Interval(unit), slots) {
         Ok(array) => lone(negate(alloc, &array)),
         Err(error) => Err(error),
     }
 }
 
-// The checked negative of an interval.
+// The checked negative of the slot of one interval.
 fn checked_negative<T: NativeNegate>(
     alloc: Global,
     unit: IntervalUnit,
-    value: T,
+    slots: &[Option<T>],
 ) -> Result<Option<T>, Error> {
-    match PrimitiveArray::from_options(alloc, DataType::Interval(unit), &[Some(value)]) {
+    match PrimitiveArray::from_options(alloc, DataType::Interval(unit), slots) {
         Ok(array) => lone(checked_negate(alloc, &array)),
         Err(error) => Err(error),
     }
 }
 
 #[test]
-fn intervals_are_negated_field_by_field(rt: HostRuntime) {
+fn days_and_milliseconds_are_negated_field_by_field(rt: HostRuntime) {
     let alloc = rt.alloc();
     let unit = IntervalUnit::DayTime;
-    let some = days_ms::new(1, -2);
+    let some = [Some(days_ms::new(1, -2))];
     let wanted = Ok(Some(days_ms::new(-1, 2)));
     assert_eq!(rt;
-        negative(alloc, unit, some),
+        negative(alloc, unit, &some),
         wanted,
         "1 day, -2 milliseconds"
     );
-    assert_eq!(rt; checked_negative(alloc, unit, some), wanted, "checked");
-    let last = days_ms::new(1, i32::MIN);
+    assert_eq!(rt; checked_negative(alloc, unit, &some), wanted, "checked");
+    let last = [Some(days_ms::new(1, i32::MIN))];
     assert_eq!(rt;
-        negative(alloc, unit, last),
+        negative(alloc, unit, &last),
         Err(Error::Overflow),
         "the last field"
     );
     assert_eq!(rt;
-        checked_negative(alloc, unit, last),
+        checked_negative(alloc, unit, &last),
         Ok(None),
         "the last field, checked"
     );
+}
+
+#[test]
+fn the_middle_field_of_an_interval_may_have_no_negative(rt: HostRuntime) {
+    let alloc = rt.alloc();
     let unit = IntervalUnit::MonthDayNano;
-    let middle = months_days_ns::new(1, i32::MIN, 3);
+    let middle = [Some(months_days_ns::new(1, i32::MIN, 3))];
     assert_eq!(rt;
-        negative(alloc, unit, middle),
+        negative(alloc, unit, &middle),
         Err(Error::Overflow),
-        "the middle field"
+        "plain"
     );
-    assert_eq!(rt;
-        checked_negative(alloc, unit, middle),
-        Ok(None),
-        "the middle one, checked"
-    );
+    assert_eq!(rt; checked_negative(alloc, unit, &middle), Ok(None), "checked");
 }

@@ -167,31 +167,23 @@ fn the_greatest_numbers_are_squared_exactly(rt: HostRuntime) {
     ];
     for (call, unsigned, signed, short) in cases {
         let alloc = rt.alloc();
-        assert_eq!(rt;
-            square::<u64>(alloc, call, DataType::UInt64),
-            Ok(unsigned),
-            "{call:?}"
-        );
-        assert_eq!(rt;
-            square::<i64>(alloc, call, DataType::Int64),
-            Ok(signed),
-            "{call:?}"
-        );
-        assert_eq!(rt;
-            square::<u8>(alloc, call, DataType::UInt8),
-            Ok(short),
-            "{call:?}"
-        );
+        let squared = square(alloc, call, DataType::UInt64, &[Some(u64::MAX)]);
+        assert_eq!(rt; squared, Ok(unsigned), "{call:?} of 64 bits");
+        let squared = square(alloc, call, DataType::Int64, &[Some(i64::MAX)]);
+        assert_eq!(rt; squared, Ok(signed), "{call:?} of 64 bits with a sign");
+        let squared = square(alloc, call, DataType::UInt8, &[Some(u8::MAX)]);
+        assert_eq!(rt; squared, Ok(short), "{call:?} of 8 bits");
     }
 }
 
-// The slot of the greatest number of a type times itself.
+// The slot of one number times itself.
 fn square<T: NativeArithmetics>(
     alloc: Global,
     call: Call,
     data_type: DataType,
+    slots: &[Option<T>],
 ) -> Result<Option<T>, Error> {
-    match PrimitiveArray::from_options(alloc, data_type, &[Some(T::MAX_VALUE)]) {
+    match PrimitiveArray::from_options(alloc, data_type, slots) {
         Ok(array) => lone(of_two(alloc, call, &array, &array)),
         Err(error) => Err(error),
     }
