@@ -130,16 +130,22 @@ fn cut_of<T: NativeType>(
     }
 }
 
-// Whether an array has its slots, is equal to its copy and to no nulls, and is cut.
-fn answers<T: NativeType>(alloc: Global, data_type: &DataType, slots: &[Option<T>; 3]) -> bool {
+// Whether an array has its slots, is equal to its copy and to no nulls, and its cut from row 1 on has
+// the rest.
+fn answers<T: NativeType>(
+    alloc: Global,
+    data_type: &DataType,
+    slots: &[Option<T>],
+    rest: &[Option<T>],
+) -> bool {
     match typed(alloc, data_type, slots) {
         Ok(array) => {
             has_slots(&array, slots)
                 && array.data_type().equal(data_type)
                 && is_made(array.try_clone(alloc), slots)
                 && is_equal(&array, array.try_clone(alloc)) == Some(true)
-                && is_equal(&array, nulls_of(alloc, data_type, 3)) == Some(false)
-                && is_made(cut_of(array.try_clone(alloc)), &slots[1..])
+                && is_equal(&array, nulls_of(alloc, data_type, slots.len())) == Some(false)
+                && is_made(cut_of(array.try_clone(alloc)), rest)
         }
         Err(_) => false,
     }
@@ -181,16 +187,15 @@ fn scalar_answers<T: NativeType>(alloc: Global, data_type: &DataType, value: Opt
 fn each_call_of_col_flat_answers_with_ample_memory(rt: HostRuntime) {
     let alloc = rt.alloc();
     let byte = DataType::Int8;
-    assert!(rt;
-        answers(alloc, &byte, &[Some(i8::MIN), None, Some(1)]),
-        "bytes"
-    );
+    let slots = [Some(i8::MIN), None, Some(1)];
+    assert!(rt; answers(alloc, &byte, &slots, &[None, Some(1)]), "bytes");
     assert!(rt; scalar_answers(alloc, &byte, Some(i8::MIN)), "a byte");
     assert!(rt; scalar_answers::<i8>(alloc, &byte, None), "a null of bytes");
     let interval = DataType::Interval(IntervalUnit::MonthDayNano);
     let span = months_days_ns::new(1, -2, 3);
+    let slots = [None, Some(span), Some(span)];
     assert!(rt;
-        answers(alloc, &interval, &[None, Some(span), Some(span)]),
+        answers(alloc, &interval, &slots, &[Some(span), Some(span)]),
         "spans"
     );
     assert!(rt; scalar_answers(alloc, &interval, Some(span)), "a span");
