@@ -174,11 +174,19 @@ fn scalar_of(kind: Kind, slot: Slot) -> Result<AnyScalar, Error> {
     }
 }
 
+// What a kernel answers for an array and a column.
+fn answer_beside(alloc: Global, kernel: Kernel, kind: Kind, lhs: &AnyArray, rhs: Column) -> Answer {
+    match array_of(alloc, rhs) {
+        Ok(right) => answer_of(alloc, kernel, kind, lhs, &right),
+        Err(_) => Answer::Other,
+    }
+}
+
 // What a kernel answers for two columns.
 pub(crate) fn kernel_answer(alloc: Global, kernel: Kernel, lhs: Column, rhs: Column) -> Answer {
-    match (array_of(alloc, lhs), array_of(alloc, rhs)) {
-        (Ok(left), Ok(right)) => answer_of(alloc, kernel, lhs.kind, &left, &right),
-        _ => Answer::Other,
+    match array_of(alloc, lhs) {
+        Ok(left) => answer_beside(alloc, kernel, lhs.kind, &left, rhs),
+        Err(_) => Answer::Other,
     }
 }
 
@@ -196,11 +204,19 @@ pub(crate) fn scalar_answer(
     }
 }
 
+// What `rem` answers for an array and a column.
+fn remainders_beside(alloc: Global, kind: Kind, lhs: &AnyArray, rhs: Column) -> Answer {
+    match array_of(alloc, rhs) {
+        Ok(right) => remainders_of(alloc, kind, lhs, &right),
+        Err(_) => Answer::Other,
+    }
+}
+
 // What `rem` answers for two columns.
 pub(crate) fn remainders(alloc: Global, lhs: Column, rhs: Column) -> Answer {
-    match (array_of(alloc, lhs), array_of(alloc, rhs)) {
-        (Ok(left), Ok(right)) => remainders_of(alloc, lhs.kind, &left, &right),
-        _ => Answer::Other,
+    match array_of(alloc, lhs) {
+        Ok(left) => remainders_beside(alloc, lhs.kind, &left, rhs),
+        Err(_) => Answer::Other,
     }
 }
 

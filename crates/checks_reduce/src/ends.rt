@@ -15,15 +15,14 @@ fn checked<T: NativeWhole>(
     Ok(sum_checked(&array))
 }
 
-// The place of the first case in which two numbers, with a null between them, have another sum.
+// The place of the first case whose slots have another sum.
 fn first_wrong<T: NativeWhole>(
     alloc: Global,
     data_type: &DataType,
-    cases: &[(T, T, Checked<T>)],
+    cases: &[(&[Option<T>], Checked<T>)],
 ) -> Option<usize> {
-    for (i, (lhs, rhs, wanted)) in cases.iter().enumerate() {
-        let slots = [Some(*lhs), None, Some(*rhs)];
-        if checked(alloc, data_type, &slots) != Ok(*wanted) {
+    for (i, (slots, wanted)) in cases.iter().enumerate() {
+        if checked(alloc, data_type, slots) != Ok(*wanted) {
             return Some(i);
         }
     }
@@ -33,11 +32,23 @@ fn first_wrong<T: NativeWhole>(
 #[test]
 fn ends_of_8_bits_with_a_sign_are_told(rt: HostRuntime) {
     let cases = [
-        (i8::MAX - 1, 1, Checked::Sum(i8::MAX)),
-        (i8::MAX, 1, Checked::Overflow),
-        (i8::MIN + 1, -1, Checked::Sum(i8::MIN)),
-        (i8::MIN, -1, Checked::Overflow),
-        (i8::MIN, i8::MAX, Checked::Sum(-1)),
+        (
+            [Some(i8::MAX - 1), None, Some(1)].as_slice(),
+            Checked::Sum(i8::MAX),
+        ),
+        ([Some(i8::MAX), None, Some(1)].as_slice(), Checked::Overflow),
+        (
+            [Some(i8::MIN + 1), None, Some(-1)].as_slice(),
+            Checked::Sum(i8::MIN),
+        ),
+        (
+            [Some(i8::MIN), None, Some(-1)].as_slice(),
+            Checked::Overflow,
+        ),
+        (
+            [Some(i8::MIN), None, Some(i8::MAX)].as_slice(),
+            Checked::Sum(-1),
+        ),
     ];
     assert_eq!(rt; first_wrong(rt.alloc(), &DataType::Int8, &cases), None);
 }
@@ -45,11 +56,26 @@ fn ends_of_8_bits_with_a_sign_are_told(rt: HostRuntime) {
 #[test]
 fn ends_of_16_bits_with_a_sign_are_told(rt: HostRuntime) {
     let cases = [
-        (i16::MAX - 1, 1, Checked::Sum(i16::MAX)),
-        (i16::MAX, 1, Checked::Overflow),
-        (i16::MIN + 1, -1, Checked::Sum(i16::MIN)),
-        (i16::MIN, -1, Checked::Overflow),
-        (i16::MIN, i16::MAX, Checked::Sum(-1)),
+        (
+            [Some(i16::MAX - 1), None, Some(1)].as_slice(),
+            Checked::Sum(i16::MAX),
+        ),
+        (
+            [Some(i16::MAX), None, Some(1)].as_slice(),
+            Checked::Overflow,
+        ),
+        (
+            [Some(i16::MIN + 1), None, Some(-1)].as_slice(),
+            Checked::Sum(i16::MIN),
+        ),
+        (
+            [Some(i16::MIN), None, Some(-1)].as_slice(),
+            Checked::Overflow,
+        ),
+        (
+            [Some(i16::MIN), None, Some(i16::MAX)].as_slice(),
+            Checked::Sum(-1),
+        ),
     ];
     assert_eq!(rt; first_wrong(rt.alloc(), &DataType::Int16, &cases), None);
 }
@@ -57,11 +83,26 @@ fn ends_of_16_bits_with_a_sign_are_told(rt: HostRuntime) {
 #[test]
 fn ends_of_32_bits_with_a_sign_are_told(rt: HostRuntime) {
     let cases = [
-        (i32::MAX - 1, 1, Checked::Sum(i32::MAX)),
-        (i32::MAX, 1, Checked::Overflow),
-        (i32::MIN + 1, -1, Checked::Sum(i32::MIN)),
-        (i32::MIN, -1, Checked::Overflow),
-        (i32::MIN, i32::MAX, Checked::Sum(-1)),
+        (
+            [Some(i32::MAX - 1), None, Some(1)].as_slice(),
+            Checked::Sum(i32::MAX),
+        ),
+        (
+            [Some(i32::MAX), None, Some(1)].as_slice(),
+            Checked::Overflow,
+        ),
+        (
+            [Some(i32::MIN + 1), None, Some(-1)].as_slice(),
+            Checked::Sum(i32::MIN),
+        ),
+        (
+            [Some(i32::MIN), None, Some(-1)].as_slice(),
+            Checked::Overflow,
+        ),
+        (
+            [Some(i32::MIN), None, Some(i32::MAX)].as_slice(),
+            Checked::Sum(-1),
+        ),
     ];
     assert_eq!(rt; first_wrong(rt.alloc(), &DataType::Int32, &cases), None);
 }
@@ -69,11 +110,26 @@ fn ends_of_32_bits_with_a_sign_are_told(rt: HostRuntime) {
 #[test]
 fn ends_of_64_bits_with_a_sign_are_told(rt: HostRuntime) {
     let cases = [
-        (i64::MAX - 1, 1, Checked::Sum(i64::MAX)),
-        (i64::MAX, 1, Checked::Overflow),
-        (i64::MIN + 1, -1, Checked::Sum(i64::MIN)),
-        (i64::MIN, -1, Checked::Overflow),
-        (i64::MIN, i64::MAX, Checked::Sum(-1)),
+        (
+            [Some(i64::MAX - 1), None, Some(1)].as_slice(),
+            Checked::Sum(i64::MAX),
+        ),
+        (
+            [Some(i64::MAX), None, Some(1)].as_slice(),
+            Checked::Overflow,
+        ),
+        (
+            [Some(i64::MIN + 1), None, Some(-1)].as_slice(),
+            Checked::Sum(i64::MIN),
+        ),
+        (
+            [Some(i64::MIN), None, Some(-1)].as_slice(),
+            Checked::Overflow,
+        ),
+        (
+            [Some(i64::MIN), None, Some(i64::MAX)].as_slice(),
+            Checked::Sum(-1),
+        ),
     ];
     assert_eq!(rt; first_wrong(rt.alloc(), &DataType::Int64, &cases), None);
 }
@@ -81,11 +137,26 @@ fn ends_of_64_bits_with_a_sign_are_told(rt: HostRuntime) {
 #[test]
 fn ends_of_128_bits_with_a_sign_are_told(rt: HostRuntime) {
     let cases = [
-        (i128::MAX - 1, 1, Checked::Sum(i128::MAX)),
-        (i128::MAX, 1, Checked::Overflow),
-        (i128::MIN + 1, -1, Checked::Sum(i128::MIN)),
-        (i128::MIN, -1, Checked::Overflow),
-        (i128::MIN, i128::MAX, Checked::Sum(-1)),
+        (
+            [Some(i128::MAX - 1), None, Some(1)].as_slice(),
+            Checked::Sum(i128::MAX),
+        ),
+        (
+            [Some(i128::MAX), None, Some(1)].as_slice(),
+            Checked::Overflow,
+        ),
+        (
+            [Some(i128::MIN + 1), None, Some(-1)].as_slice(),
+            Checked::Sum(i128::MIN),
+        ),
+        (
+            [Some(i128::MIN), None, Some(-1)].as_slice(),
+            Checked::Overflow,
+        ),
+        (
+            [Some(i128::MIN), None, Some(i128::MAX)].as_slice(),
+            Checked::Sum(-1),
+        ),
     ];
     assert_eq!(rt;
         first_wrong(rt.alloc(), &DataType::Decimal(38, 0), &cases),
@@ -96,10 +167,16 @@ fn ends_of_128_bits_with_a_sign_are_told(rt: HostRuntime) {
 #[test]
 fn ends_of_8_bits_without_a_sign_are_told(rt: HostRuntime) {
     let cases = [
-        (u8::MAX - 1, 1, Checked::Sum(u8::MAX)),
-        (u8::MAX, 1, Checked::Overflow),
-        (u8::MAX, u8::MAX, Checked::Overflow),
-        (0, 0, Checked::Sum(0)),
+        (
+            [Some(u8::MAX - 1), None, Some(1)].as_slice(),
+            Checked::Sum(u8::MAX),
+        ),
+        ([Some(u8::MAX), None, Some(1)].as_slice(), Checked::Overflow),
+        (
+            [Some(u8::MAX), None, Some(u8::MAX)].as_slice(),
+            Checked::Overflow,
+        ),
+        ([Some(0), None, Some(0)].as_slice(), Checked::Sum(0)),
     ];
     assert_eq!(rt; first_wrong(rt.alloc(), &DataType::UInt8, &cases), None);
 }
@@ -107,10 +184,19 @@ fn ends_of_8_bits_without_a_sign_are_told(rt: HostRuntime) {
 #[test]
 fn ends_of_16_bits_without_a_sign_are_told(rt: HostRuntime) {
     let cases = [
-        (u16::MAX - 1, 1, Checked::Sum(u16::MAX)),
-        (u16::MAX, 1, Checked::Overflow),
-        (u16::MAX, u16::MAX, Checked::Overflow),
-        (0, 0, Checked::Sum(0)),
+        (
+            [Some(u16::MAX - 1), None, Some(1)].as_slice(),
+            Checked::Sum(u16::MAX),
+        ),
+        (
+            [Some(u16::MAX), None, Some(1)].as_slice(),
+            Checked::Overflow,
+        ),
+        (
+            [Some(u16::MAX), None, Some(u16::MAX)].as_slice(),
+            Checked::Overflow,
+        ),
+        ([Some(0), None, Some(0)].as_slice(), Checked::Sum(0)),
     ];
     assert_eq!(rt; first_wrong(rt.alloc(), &DataType::UInt16, &cases), None);
 }
@@ -118,10 +204,19 @@ fn ends_of_16_bits_without_a_sign_are_told(rt: HostRuntime) {
 #[test]
 fn ends_of_32_bits_without_a_sign_are_told(rt: HostRuntime) {
     let cases = [
-        (u32::MAX - 1, 1, Checked::Sum(u32::MAX)),
-        (u32::MAX, 1, Checked::Overflow),
-        (u32::MAX, u32::MAX, Checked::Overflow),
-        (0, 0, Checked::Sum(0)),
+        (
+            [Some(u32::MAX - 1), None, Some(1)].as_slice(),
+            Checked::Sum(u32::MAX),
+        ),
+        (
+            [Some(u32::MAX), None, Some(1)].as_slice(),
+            Checked::Overflow,
+        ),
+        (
+            [Some(u32::MAX), None, Some(u32::MAX)].as_slice(),
+            Checked::Overflow,
+        ),
+        ([Some(0), None, Some(0)].as_slice(), Checked::Sum(0)),
     ];
     assert_eq!(rt; first_wrong(rt.alloc(), &DataType::UInt32, &cases), None);
 }
@@ -129,10 +224,19 @@ fn ends_of_32_bits_without_a_sign_are_told(rt: HostRuntime) {
 #[test]
 fn ends_of_64_bits_without_a_sign_are_told(rt: HostRuntime) {
     let cases = [
-        (u64::MAX - 1, 1, Checked::Sum(u64::MAX)),
-        (u64::MAX, 1, Checked::Overflow),
-        (u64::MAX, u64::MAX, Checked::Overflow),
-        (0, 0, Checked::Sum(0)),
+        (
+            [Some(u64::MAX - 1), None, Some(1)].as_slice(),
+            Checked::Sum(u64::MAX),
+        ),
+        (
+            [Some(u64::MAX), None, Some(1)].as_slice(),
+            Checked::Overflow,
+        ),
+        (
+            [Some(u64::MAX), None, Some(u64::MAX)].as_slice(),
+            Checked::Overflow,
+        ),
+        ([Some(0), None, Some(0)].as_slice(), Checked::Sum(0)),
     ];
     assert_eq!(rt; first_wrong(rt.alloc(), &DataType::UInt64, &cases), None);
 }
