@@ -1,0 +1,25 @@
+-- What the places and tokens of a cursor stand for.
+use Rattle.json.specs.Lex as lexing
+use Rattle.json.specs.Token as spec
+use Rattle.col_json.specs.declared.cursor.Place.{Place}
+use Rattle.col_json.specs.declared.cursor.Place.TheVariants.{Fresh, AfterValue, AfterComma}
+use Rattle.col_json.specs.declared.cursor.Token.{Token}
+use Rattle.col_json.specs.declared.cursor.Token.TheVariants.{BeginObject, EndObject, BeginArray}
+use Rattle.col_json.specs.declared.cursor.Token.TheVariants.{EndArray, Key, Text, Number, Null}
+
+-- where commas and colons stand as they are to
+abbrev pub place_of : Place → lexing.Place
+place_of Fresh = lexing.fresh
+place_of AfterValue = lexing.after_value
+place_of AfterComma = lexing.after_comma
+
+-- the token of JSON's grammar
+abbrev pub token_of : Token → spec.Token
+token_of BeginObject = spec.begin_object
+token_of EndObject = spec.end_object
+token_of BeginArray = spec.begin_array
+token_of EndArray = spec.end_array
+token_of (Key name) = spec.key name.now
+token_of (Text text) = spec.string text.now
+token_of (Number text) = spec.number text.now
+token_of Null = spec.null
