@@ -1,4 +1,5 @@
 pub mod CellOfLemmas
+pub mod DigitTextLemmas
 pub mod LeafLemmas
 pub mod ListLemmas
 pub mod NumberTextLemmas
@@ -6,3 +7,4 @@ pub mod PositionLemmas
 pub mod ReadingLemmas
 pub mod SpellingLemmas
 pub mod StepTextLemmas
+pub mod TokenLemmas

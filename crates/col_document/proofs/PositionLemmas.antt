@@ -1,5 +1,5 @@
 -- The names of counts and of positions.
-use Rattle.std.proofs.Common.{◌≡◌, ℕ, zero, suc, ◌^◌, ◌<◌, Bool, true, false, not, ◌&&◌, ◌||◌, cond}
+use Rattle.std.proofs.Common.{◌≡◌, ℕ, zero, suc, ◌^◌, ◌<◌, Bool, true, false, not, ◌||◌, cond}
 use Rattle.std.proofs.Common.{◌==◌, List, [], ◌∷◌, ◌++◌, length, get_or, Option, Some, None, refl}
 use Rattle.std.proofs.Common.{sym, arith}
 use Rattle.std.specs.Prelude.{slice_index, codes}

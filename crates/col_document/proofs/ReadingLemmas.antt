@@ -72,19 +72,17 @@ document_read-parts d column_items tree_items columns trees c t cs ts =
     (λ (table : List Column). let v : DocumentView = record { table = table; trees = trees } in v)
     (nat_lt (item_count column_items) (2 ^ 32) && is_table columns) columns)
 
--- the bytes of a text that has a reading
-pub document_of-read : (bytes : List ℕ) (d : Data) → IsUtf8 bytes → read bytes ≡ Some d
-    → document_of bytes ≡ document_read d
-document_of-read bytes d utf8 e = rw (is_utf8-from_IsUtf8 bytes utf8, e) refl
+-- the bytes of a text
+pub document_of-text : (bytes text : List ℕ) → IsUtf8 bytes → text ≡ bytes
+    → document_of bytes ≡ option_and_then document_read (read text)
+document_of-text bytes text utf8 same = rw (is_utf8-from_IsUtf8 bytes utf8, same) refl
 
--- nothing is read on where nothing is read
-unread-tested : (b : Bool) (o : Option Data) → (b ≡ true → o ≡ None)
-    → cond b (o >>= document_read) None ≡ None
-unread-tested true o h = ap (λ o. o >>= document_read) (h refl)
-unread-tested false o h = refl
+-- bytes that are no text
+no_text : (b : Bool) (o : Option DocumentView) → (b ≡ true → ⊥) → cond b o None ≡ None
+no_text true o h = absurd (h refl)
+no_text false o h = refl
 
--- bytes that are no text, or a text without a reading
-pub document_of-unread : (bytes : List ℕ) → (IsUtf8 bytes → read bytes ≡ None)
-    → document_of bytes ≡ None
+pub document_of-unread : (bytes : List ℕ) → (IsUtf8 bytes → ⊥) → document_of bytes ≡ None
 document_of-unread bytes h =
-    unread-tested (is_utf8 bytes) (read bytes) (λ e. h (IsUtf8-from_is_utf8 bytes e))
+    no_text (is_utf8 bytes) (read bytes >>= document_read)
+    (λ e. h (IsUtf8-from_is_utf8 bytes e))

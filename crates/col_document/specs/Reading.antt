@@ -1,6 +1,9 @@
 -- What a reading answers but for want of memory, and what the code's pieces stand for.
-use Rattle.std.specs.Prelude.{◌≡◌, if◌then◌else◌, ◌&&◌, ◌^◌, nat_lt, length, List, map}
+use Rattle.std.specs.Prelude.{◌≡◌, ℕ, if◌then◌else◌, ◌&&◌, ◌^◌, nat_lt, length, List, map}
 use Rattle.std.specs.Prelude.{option_map, reverse, Option, Some, None, Result, Ok, Err, ⊤}
+use Rattle.json.specs.Token.{Token}
+use Rattle.serde_json.specs.Data.{Data, Items}
+use Rattle.col_json.specs.Begins.{Begins, BeginsItems}
 use Rattle.col_model.specs.Cell.{Cell}
 use Rattle.col_types.specs.Column.{Column, is_table}
 use Rattle.col_types.specs.DataKind.{DataKind}
@@ -24,6 +27,16 @@ IsUnread Malformed wanted = wanted ≡ None
 abbrev pub Reads : {X Y : Type 0} → (X → Y) → Result X ReadError → Option Y → Type 0
 Reads view (Ok x) wanted = wanted ≡ Some (view x)
 Reads view (Err e) wanted = IsUnread e wanted
+
+-- the tokens begin with a value that is read as this, within the levels, and the rest follows
+abbrev pub IsReadAs : {Y : Type 0} → ℕ → (Data → Option Y) → List Token → Y → List Token → Type 0
+IsReadAs levels read_one ts y rest =
+    (d : Data) × (read_one d ≡ Some y) × Begins levels ts d rest
+
+-- the same of the items of a list and the bracket that closes it
+abbrev pub AreReadAs : {Y : Type 0} → ℕ → (Items → Option Y) → List Token → Y → List Token → Type 0
+AreReadAs levels read_all ts y rest =
+    (ds : Items) × (read_all ds ≡ Some y) × BeginsItems levels ts ds rest
 
 -- the leaf that a scalar is
 abbrev pub scalar_leaf : AnyScalar → Tree

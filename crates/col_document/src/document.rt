@@ -1,6 +1,8 @@
 //! Documents: a table, and trees over its columns.
-ghost use Rattle.std.specs.Prelude.{◌≡◌, ◌↔◌, ◌<◌, Err, IfOk, None, Some, length, map, slice_get};
+ghost use Rattle.std.specs.Prelude.{◌≡◌, ◌<◌, IfSome, Some, length, map, option_and_then};
+ghost use Rattle.std.specs.Prelude.{slice_get};
 ghost use Rattle.serde_json.specs.Errors.{IsMemory};
+ghost use Rattle.serde_json.specs.Read.{read};
 ghost use Rattle.serde_json.specs.View.{view};
 ghost use Rattle.col_array.specs.Any.{any_column};
 ghost use Rattle.col_eval.specs.Tree.{tree_of};
@@ -10,12 +12,17 @@ ghost use Rattle.col_document.specs.Reading.{Reads, only_table};
 ghost use Rattle.col_document.specs.View.{document_view};
 
 use crate::cells::{list_at, read_columns, take_list};
+use crate::plain::take_columns;
 use crate::trees::read_trees;
 use col_array::AnyArray;
 use col_eval::{Expr, Table};
+use col_json::{Cursor, close_object, open_object, read_value as json_value, take_key};
 use serde_json::Value;
 use std::alloc::{AllocError, AllocFailed, Global};
 use std::marker::Model;
+
+// A JSON text nests within 127 levels, and the members of its object within one less.
+const MAX_LEVELS: usize = 126;
 
 /// A table, and trees over its columns.
 #[derive(Drop)]
@@ -53,9 +60,12 @@ pub enum ReadError {
 pub fn read_document(alloc: Global, bytes: &[u8]) -> Result<Document, ReadError>
     ensures { Reads document_view result (document_of bytes.now) }
 {
-    match Value::from_slice(alloc, bytes) {
-        Ok(value) => read_value(alloc, value),
-        Err(error) => Err(refusal(&error)),
+    let Ok(text) = simdutf8::basic::from_utf8(bytes) else {
+        return Err(ReadError::Malformed);
+    };
+    match read_plain(alloc, text) {
+        Some(document) => Ok(document),
+        None => read_text(alloc, text),
     }
 }
 
@@ -96,6 +106,38 @@ impl<T: Drop> From<AllocFailed<T>> for ReadError {
 
     fn from(_e: AllocFailed<T>) -> ReadError {
         ReadError::Memory
+    }
+}
+
+// The document of a text of the plain form: it has its columns before its trees, each of them once,
+// and so have the columns their types before their values. `None` where the text is not of that
+// form, where it holds no document, and for want of memory.
+fn read_plain(alloc: Global, text: &str) -> Option<Document>
+    ensures { IfSome result
+        (λ d. option_and_then document_read (read text.now) ≡ Some (document_view d)) }
+{
+    let mut cursor = Cursor::new(text.as_bytes());
+    open_object(&mut cursor)?;
+    take_key(alloc, &mut cursor, "columns", "trees", MAX_LEVELS)?;
+    let columns = take_columns(alloc, &mut cursor, MAX_LEVELS)?;
+    take_key(alloc, &mut cursor, "trees", "columns", MAX_LEVELS)?;
+    let trees = json_value(alloc, &mut cursor, MAX_LEVELS)?;
+    close_object(alloc, &mut cursor, "columns", "trees", MAX_LEVELS)?;
+    if !cursor.is_done() {
+        return None;
+    }
+    let trees = read_trees(alloc, trees.as_array()?.as_slice()).ok()?;
+    let table = make_table(columns).ok()?;
+    Some(Document { table, trees })
+}
+
+// The document of a text, by its JSON value.
+fn read_text(alloc: Global, text: &str) -> Result<Document, ReadError>
+    ensures { Reads document_view result (option_and_then document_read (read text.now)) }
+{
+    match Value::from_str(alloc, text) {
+        Ok(value) => read_value(alloc, value),
+        Err(error) => Err(refusal(&error)),
     }
 }
 

@@ -5,6 +5,7 @@ mod cells;
 mod document;
 pub mod laws;
 mod pieces;
+mod plain;
 mod spelled;
 mod texts;
 mod trees;

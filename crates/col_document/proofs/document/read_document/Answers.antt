@@ -1,15 +1,18 @@
+use Rattle.std.proofs.Common.{◌∙◌}
 use Rattle.col_document.specs.View.{document_view}
-use Rattle.col_document.proofs.ReadingLemmas.{Reads-same, document_of-read, document_of-unread}
-use Rattle.col_document.proofs.ReadingLemmas.{unread-where}
+use Rattle.col_document.proofs.ReadingLemmas.{Reads-same, document_of-text, document_of-unread}
 use Rattle.col_document.proofs.document.read_document.Goals as goal
 
-pub returns-in-Ok : goal.returns-in-Ok
-returns-in-Ok c =
-    let same = document_of-read c.args.bytes.now _ c.in-Ok.ensures.ok.0 c.in-Ok.ensures.ok.1 in
-    Reads-same document_view _ _ _ same c.read_value.ensures
+pub returns-in_default : goal.returns-in_default
+returns-in_default c = document_of-unread c.args.bytes.now c.in_default.ensures
 
-pub returns-in-Err : goal.returns-in-Err
-returns-in-Err c =
-    unread-where c.refusal.result _
-    (λ malformed. document_of-unread c.args.bytes.now
-    (c.in-Err.ensures.err (c.refusal.ensures malformed)))
+pub returns-in-Some : goal.returns-in-Some
+returns-in-Some c =
+    document_of-text c.args.bytes.now c.in-Ok.text.now c.in-Ok.ensures.1 c.in-Ok.ensures.0
+    ∙ c.in-Some.ensures
+
+pub returns-in-None : goal.returns-in-None
+returns-in-None c =
+    Reads-same document_view _ _ _
+    (document_of-text c.args.bytes.now c.in-Ok.text.now c.in-Ok.ensures.1 c.in-Ok.ensures.0)
+    c.read_text.ensures
