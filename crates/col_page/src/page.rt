@@ -59,13 +59,15 @@ impl Page {
     }
 }
 
-/// The page of a document: for each tree, in order, a line with its column or its refusal.
-pub fn page_of(alloc: Global, doc: &Document) -> Result<Page, Error>
+/// The page of a document: for each tree, in order, a line with its column or its refusal. Its text
+/// stands in the room of a vector, which is emptied first and grows where it has too little.
+pub fn page_of(alloc: Global, doc: &Document, room: Vec<u8>) -> Result<Page, Error>
     ensures page { IfOk result (λ page. page.text ≡ page_text (document_view doc.now)) }
     ensures error { IfOk result (λ page. page.has_error ≡ has_error_line (document_view doc.now)) }
     ensures refused { FailsByMemory result }
 {
-    let mut text = Vec::new(alloc);
+    let mut text = room;
+    text.clear();
     let mut has_error = false;
     for i in 0..doc.tree_count() {
         has_error |= push_line(alloc, &mut text, doc.table(), doc.tree(i))?;

@@ -91,7 +91,8 @@ fn input_for<S: Source>(alloc: Global, command: Command, source: &mut S) -> Resu
     }
 }
 
-// The page of a command, of these bytes. The bytes go as soon as they are read.
+// The page of a command, of these bytes. Of `eval` it takes their room; of `sum` they go as soon as
+// they are read.
 fn page_of_input(alloc: Global, command: Command, bytes: Vec<u8>) -> Result<Page, ReadError>
     requires { IsAsked command }
     ensures { Reads (λ page. page) result (page_of_command command bytes.items) }
@@ -99,8 +100,7 @@ fn page_of_input(alloc: Global, command: Command, bytes: Vec<u8>) -> Result<Page
     match command {
         Command::Eval => {
             let document = read_document(alloc, bytes.as_slice())?;
-            drop(bytes);
-            page_of(alloc, &document).map_err(|_| ReadError::Memory)
+            page_of(alloc, &document, bytes).map_err(|_| ReadError::Memory)
         }
         Command::Sum => {
             let document = read_document(alloc, bytes.as_slice())?;
