@@ -9,5 +9,5 @@ mod sums;
 mod type_texts;
 
 pub use generator::{can_make, made};
-pub use page::{Page, page_of};
+pub use page::{Page, page_in, page_of};
 pub use sums::sums_of;

@@ -59,9 +59,20 @@ impl Page {
     }
 }
 
-/// The page of a document: for each tree, in order, a line with its column or its refusal. Its text
-/// stands in the room of a vector, which is emptied first and grows where it has too little.
-pub fn page_of(alloc: Global, doc: &Document, room: Vec<u8>) -> Result<Page, Error>
+/// The page of a document: for each tree, in order, a line with its column or its refusal. `Memory`
+/// for want of memory, and for nothing else.
+pub fn page_of(alloc: Global, doc: &Document) -> Result<Page, Error>
+    ensures page { IfOk result (λ page. page.text ≡ page_text (document_view doc.now)) }
+    ensures error { IfOk result (λ page. page.has_error ≡ has_error_line (document_view doc.now)) }
+    ensures refused { FailsByMemory result }
+{
+    page_in(alloc, doc, Vec::new(alloc))
+}
+
+/// The page of a document, as `page_of` gives it, in the room of a vector, which is emptied first
+/// and grows where it has too little. `Memory` for want of memory, and for nothing else; the vector
+/// goes with it.
+pub fn page_in(alloc: Global, doc: &Document, room: Vec<u8>) -> Result<Page, Error>
     ensures page { IfOk result (λ page. page.text ≡ page_text (document_view doc.now)) }
     ensures error { IfOk result (λ page. page.has_error ≡ has_error_line (document_view doc.now)) }
     ensures refused { FailsByMemory result }

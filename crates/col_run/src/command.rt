@@ -13,7 +13,7 @@ use crate::status::Status;
 use crate::transfer::{Stop, read_all, write_all};
 use crate::words::{Command, read_command};
 use col_document::{ReadError, read_document};
-use col_page::{Page, made, page_of, sums_of};
+use col_page::{Page, made, page_in, sums_of};
 use std::alloc::Global;
 
 /// Runs the command of the words: `eval` and `sum` take a document from the source, and `make N`
@@ -100,7 +100,7 @@ fn page_of_input(alloc: Global, command: Command, bytes: Vec<u8>) -> Result<Page
     match command {
         Command::Eval => {
             let document = read_document(alloc, bytes.as_slice())?;
-            page_of(alloc, &document, bytes).map_err(|_| ReadError::Memory)
+            page_in(alloc, &document, bytes).map_err(|_| ReadError::Memory)
         }
         Command::Sum => {
             let document = read_document(alloc, bytes.as_slice())?;

@@ -2,7 +2,7 @@ use Rattle.std.proofs.Common.{[], take}
 use Rattle.col_eval.specs.Meaning.{outcome_of}
 use Rattle.col_page.specs.Page.{HasLines, column_text}
 use Rattle.col_document.specs.View.{document_view}
-use Rattle.col_page.proofs.page.page_of.Given as goal
+use Rattle.col_page.proofs.page.page_in.Given as goal
 
 -- the lines so far are those of the trees so far
 abbrev pub invariant-loop-i : goal.invariant-loop-i

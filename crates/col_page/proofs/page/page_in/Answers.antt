@@ -1,6 +1,6 @@
 use Rattle.col_document.specs.View.{document_view}
 use Rattle.col_page.proofs.PageLemmas.{lines-next}
-use Rattle.col_page.proofs.page.page_of.Goals as goal
+use Rattle.col_page.proofs.page.page_in.Goals as goal
 
 pub loop-i-preserved : goal.loop-i-preserved
 loop-i-preserved c =
