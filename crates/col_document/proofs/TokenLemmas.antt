@@ -1,40 +1,60 @@
 -- Lists of a document, read a token at a time.
-use Rattle.std.proofs.Common.{◌≡◌, ℕ, ◌-◌, ◌<◌, ◌≤◌, List, [], ◌∷◌, ◌++◌, length, Option, Some}
-use Rattle.std.proofs.Common.{None, codes}
+use Rattle.std.proofs.Common.{◌≡◌, ℕ, ◌-◌, ◌<◌, ◌≤◌, ℤ, pos, negsuc, List, [], ◌∷◌, ◌++◌, length}
+use Rattle.std.proofs.Common.{Option, Some, None, codes}
 use Rattle.std.proofs.Common.{option_and_then, option_map, refl, sym, ap, ◌∙◌, arith}
 use Rattle.std.proofs.lemmas.Option.{same_Some}
 use Rattle.json.specs.Token as token
 use Rattle.json.specs.Token.{Token, begin_array, begin_object}
-use Rattle.json.specs.Json as json
-use Rattle.json.specs.Json.{after_end_array, items, parse_map, read_key, value}
-use Rattle.json.proofs.Grammar.{after_end_array-shorter, value_is}
-use Rattle.serde_json.specs.Data.{Data, Items, no_items, array, object, string}
-use Rattle.serde_json.specs.Find.{as_array, as_str, get}
-use Rattle.serde_json.specs.Read.{converted, of_items, of_json}
-use Rattle.serde_json.specs.Read.{read}
+use Rattle.json.specs.Json.{after_end_array, read_key}
 use Rattle.json.specs.Lex.{tokens}
+use Rattle.serde_json.specs.Data.{Data, Items, no_items, array, object, null, number, string}
+use Rattle.serde_json.specs.Find.{as_array, as_integer, as_str, get, of_integer}
+use Rattle.serde_json.specs.Read.{read}
 use Rattle.col_json.specs.Begins.{Begins, Passes}
-use Rattle.col_eval.specs.Tree.{Tree}
+use Rattle.col_json.specs.Digits.{Spells}
 use Rattle.col_json.proofs.BeginsLemmas.{begins-all, begins-list, begins-object, begins-pair}
-use Rattle.col_json.proofs.BeginsLemmas.{leaf-begins}
-use Rattle.col_json.proofs.BeginsLemmas.{in_front, front-none, front-more}
-use Rattle.col_json.proofs.GrammarLemmas.{next_item, no_item}
+use Rattle.col_json.proofs.BeginsLemmas.{in_front, ItemsUpTo, items-none, items-more, items-all}
+use Rattle.col_json.proofs.ValueLemmas.{null-begins, number-begins, text-begins}
+use Rattle.col_model.specs.Cell as cell
+use Rattle.col_model.specs.Whole.{WholeType, checked_number}
 use Rattle.col_types.specs.Column.{Column}
 use Rattle.col_types.specs.DataKind.{DataKind}
-use Rattle.col_document.specs.Document.{cell_read, column_read, type_named, type_read}
+use Rattle.col_eval.specs.Tree.{Tree}
+use Rattle.col_document.specs.Document.{cell_read, column_read, type_named, type_read, whole_read}
 use Rattle.col_document.specs.Document.{document_read, tree_read}
 use Rattle.col_document.specs.Json.{each}
 use Rattle.col_document.specs.Reading.{AreReadAs, IsReadAs, column_with, only_table}
+use Rattle.col_document.proofs.DigitTextLemmas.{spelled-read}
 use Rattle.col_document.proofs.ListLemmas.{bind_some, option_cons-some}
 use Rattle.col_document.proofs.ReadingLemmas.{column_read-list, document_read-parts}
 
--- a value that is one token
-pub leaf-read : {Y : Type 0} (f : Data → Option Y) (t : Token) (j : json.Json) (d : Data) (y : Y)
-    → ((outer : ℕ) (rest : List Token) → value outer (t ∷ rest) ≡ Some (j, rest))
-    → of_json j ≡ Some d → f d ≡ Some y → (levels : ℕ) (rest : List Token)
-    → IsReadAs levels f (t ∷ rest) y rest
-leaf-read f t j d y is seen e levels rest =
-    (d, e, leaf-begins levels (t ∷ rest) rest t j d refl (λ n. is n rest) seen)
+as_integer-of_integer : (n : ℤ) → as_integer (of_integer n) ≡ Some n
+as_integer-of_integer (pos n) = refl
+as_integer-of_integer (negsuc n) = refl
+
+-- ---- cells
+
+module _ (t : WholeType) (levels : ℕ) (rest : List Token) where
+  pub null-cell : IsReadAs levels (whole_read t) (token.null ∷ rest) cell.null rest
+  null-cell = (null, refl, null-begins levels rest)
+
+  pub number-cell : (text : List ℕ) (n m : ℤ) → Spells text n → checked_number t n ≡ Some m
+      → IsReadAs levels (whole_read t) (token.number text ∷ rest) (cell.whole m) rest
+  number-cell text n m spells fits = (
+    number (of_integer n),
+    rw (as_integer-of_integer n, fits) refl,
+    number-begins levels text n rest spells,
+  )
+
+  pub text-cell : (text : List ℕ) (n m : ℤ) → Spells text n → checked_number t n ≡ Some m
+      → IsReadAs levels (whole_read t) (token.string text ∷ rest) (cell.whole m) rest
+  text-cell text n m spells fits = (
+    string text,
+    ap (option_map cell.whole) (spelled-read t text n m spells fits),
+    text-begins levels text rest,
+  )
+
+-- ---- lists
 
 -- a list, by its items
 pub list-read : {Y : Type 0} (levels : ℕ) (f : Items → Option Y) (ts inner rest : List Token)
@@ -56,50 +76,30 @@ each-more f (first ∷ done) d ys y e h =
     let rest = each-more f done d p.1 y p.3 h in
     rw (p.2, rest) (ap (λ zs. Some (zs ++ y ∷ [])) p.4)
 
--- of the tokens of a list, those up to here are items that are read
+-- from the first token of a list's items up to another stand items that are read as these
 abbrev pub AreReadUpTo : {Y : Type 0} → ℕ → (Data → Option Y) → List Token → List Y → List Token
     → Type 0
 AreReadUpTo levels f all ys ts =
-    (n : ℕ) × (done : List Data) × (length ts ≤ n) × (length ts ≤ length all)
-    × (each f (in_front done no_items) ≡ Some ys)
-    × (converted of_items (items (value levels) (length all) all)
-    ≡ parse_map (in_front done) (converted of_items (items (value levels) n ts)))
+    (done : List Data) × (each f (in_front done no_items) ≡ Some ys) × ItemsUpTo levels all done ts
 
 pub read-none : {Y : Type 0} (levels : ℕ) (f : Data → Option Y) (all : List Token)
     → AreReadUpTo levels f all [] all
-read-none levels f all = (length all, [], omega arith, omega arith, refl, front-none _)
+read-none levels f all = ([], refl, items-none levels all)
 
 pub read-more : {Y : Type 0} (levels : ℕ) (f : Data → Option Y) (all ts rest : List Token)
-    (ys : List Y) (y : Y) → AreReadUpTo levels f all ys ts → after_end_array ts ≡ None
-    → IsReadAs levels f ts y rest → AreReadUpTo levels f all (ys ++ y ∷ []) rest
-read-more levels f all ts rest ys y h going next =
-    let n = h.0 in
-    let done = h.1 in
-    let d = next.0 in
-    let less = next.2.1 in (
-      n - 1,
-      done ++ d ∷ [],
-      omega (arith, h.2, less),
-      omega (arith, h.3, less),
-      each-more f done d ys y h.4 next.1,
-      h.5
-          ∙ ap (parse_map (in_front done))
-          (next_item (value levels) n ts rest d (omega (arith, h.2, less)) going next.2.0)
-          ∙ front-more done d _,
-    )
+    (ys : List Y) (y : Y) → AreReadUpTo levels f all ys ts → IsReadAs levels f ts y rest
+    → AreReadUpTo levels f all (ys ++ y ∷ []) rest
+read-more levels f all ts rest ys y (done, are, upto) (d, is, begins) = (
+  done ++ d ∷ [],
+  each-more f done d ys y are is,
+  items-more levels all ts rest done d upto begins,
+)
 
 pub read-all : {Y : Type 0} (levels : ℕ) (f : Data → Option Y) (all ts rest : List Token)
     (ys : List Y) → AreReadUpTo levels f all ys ts → after_end_array ts ≡ Some rest
     → AreReadAs levels (each f) all ys rest
-read-all levels f all ts rest ys h ended =
-    let done = h.1 in (
-      in_front done no_items,
-      h.4,
-      (
-        h.5 ∙ ap (parse_map (in_front done)) (no_item (value levels) h.0 ts rest h.2 ended),
-        omega (arith, h.3, after_end_array-shorter ts rest ended),
-      ),
-    )
+read-all levels f all ts rest ys (done, are, upto) ended =
+    (in_front done no_items, are, items-all levels all ts rest done upto ended)
 
 -- ---- objects of two members
 
@@ -125,8 +125,8 @@ pub column-read : (levels : ℕ)
 column-read
     levels ts inner at_1 at_type past_type at_2 at_values opened past_values at_3 rest name t column
     enough is_open pass_1 type_key is_text named pass_2 values_key is_list cells pass_3 closed =
-    let text = leaf-begins (levels - 1) at_type past_type (token.string name)
-    (json.string name) (string name) is_text (λ n. value_is n _) refl in
+    let text : Begins (levels - 1) at_type (string name) past_type =
+    rw is_text (text-begins (levels - 1) name past_type) in
     let inside = cells (levels - 1 - 1) in
     let ds = inside.0 in
     let list = begins-list (levels - 1) (levels - 1 - 1) at_values opened past_values ds

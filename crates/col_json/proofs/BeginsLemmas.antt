@@ -1,7 +1,7 @@
 -- The values that lists and objects begin with, by their parts.
-use Rattle.std.proofs.Common.{◌≡◌, ℕ, suc, ◌-◌, ◌<◌, List, [], ◌∷◌, ◌++◌, length, Option, Some}
+use Rattle.std.proofs.Common.{◌≡◌, ℕ, suc, ◌-◌, ◌<◌, ◌≤◌, List, [], ◌∷◌, ◌++◌, length, Option, Some}
 use Rattle.std.proofs.Common.{None}
-use Rattle.std.proofs.Common.{map, option_map, option_and_then, refl, sym, ap, ◌∙◌, arith}
+use Rattle.std.proofs.Common.{map, option_and_then, refl, sym, ap, ◌∙◌, arith}
 use Rattle.std.proofs.lemmas.Option.{none-some}
 use Rattle.json.specs.Token as token
 use Rattle.json.specs.Token.{Token, begin_array, begin_object}
@@ -9,6 +9,7 @@ use Rattle.json.specs.Lex.{tokens}
 use Rattle.json.specs.Json as json
 use Rattle.json.specs.Json.{after_end_array, items, members, value, parse_map, read_key}
 use Rattle.json.proofs.Grammar.{value_is, value-begin_array, value-begin_object, read_key-shorter}
+use Rattle.json.proofs.Grammar.{after_end_array-shorter}
 use Rattle.serde_json.specs.Data.{Data, Items, no_items, item, Members, no_members, array, object}
 use Rattle.serde_json.specs.Data.{put}
 use Rattle.serde_json.specs.Read.{converted, of_json, of_items, of_members, max_depth, read}
@@ -18,6 +19,7 @@ use Rattle.col_json.specs.Begins.{Begins, BeginsItems, BeginsMembers, Passes}
 use Rattle.serde_json.specs.Find.{get_member}
 use Rattle.serde_json.proofs.Views.{get_member-put, get_member-put_other}
 use Rattle.col_json.proofs.GrammarLemmas.{seen, seen-array, seen-object, next_member, no_member}
+use Rattle.col_json.proofs.GrammarLemmas.{next_item, no_item}
 
 -- a list, by its items
 pub begins-list : (outer levels : ℕ) (ts inner rest : List Token) (ds : Items)
@@ -136,31 +138,21 @@ begins-all text d h =
     ∙ found.2
 
 -- a list goes on where a value begins
-pub goes-on : (levels : ℕ) (t : Token) (ts rest : List Token) (d : Data)
-    → Begins levels (t ∷ ts) d rest → after_end_array (t ∷ ts) ≡ None
-goes-on levels token.begin_object ts rest d h = refl
-goes-on levels token.end_object ts rest d h = refl
-goes-on levels token.begin_array ts rest d h = refl
-goes-on levels token.end_array ts rest d h =
+pub goes-on : (levels : ℕ) (ts rest : List Token) (d : Data) → Begins levels ts d rest
+    → after_end_array ts ≡ None
+goes-on levels [] rest d h = refl
+goes-on levels (token.begin_object ∷ ts) rest d h = refl
+goes-on levels (token.end_object ∷ ts) rest d h = refl
+goes-on levels (token.begin_array ∷ ts) rest d h = refl
+goes-on levels (token.end_array ∷ ts) rest d h =
     absurd (none-some _ (sym (ap (converted of_json) (value_is levels (token.end_array ∷ ts)))
     ∙ h.0))
-goes-on levels (token.key s) ts rest d h = refl
-goes-on levels (token.string s) ts rest d h = refl
-goes-on levels (token.number s) ts rest d h = refl
-goes-on levels (token.boolean b) ts rest d h = refl
-goes-on levels token.null ts rest d h = refl
-goes-on levels token.bad ts rest d h = refl
-
--- a value that is one token
-pub leaf-begins : (levels : ℕ) (ts rest : List Token) (t : Token) (j : json.Json) (d : Data)
-    → ts ≡ t ∷ rest → ((outer : ℕ) → value outer (t ∷ rest) ≡ Some (j, rest)) → of_json j ≡ Some d
-    → Begins levels ts d rest
-leaf-begins levels ts rest t j d first is e =
-    let longer : length ts ≡ suc (length rest) = ap length first in (
-      ap (λ us. converted of_json (value levels us)) first ∙ ap (converted of_json) (is levels)
-          ∙ ap (option_map (λ x. (x, rest))) e,
-      omega (arith, longer),
-    )
+goes-on levels (token.key s ∷ ts) rest d h = refl
+goes-on levels (token.string s ∷ ts) rest d h = refl
+goes-on levels (token.number s ∷ ts) rest d h = refl
+goes-on levels (token.boolean b ∷ ts) rest d h = refl
+goes-on levels (token.null ∷ ts) rest d h = refl
+goes-on levels (token.bad ∷ ts) rest d h = refl
 
 -- ---- items that are done
 
@@ -175,12 +167,12 @@ in_front-more [] d rest = refl
 in_front-more (e ∷ done) d rest = ap (item e) (in_front-more done d rest)
 
 -- nothing is done
-pub front-none : (o : Option (Items × List Token)) → o ≡ parse_map (in_front []) o
+front-none : (o : Option (Items × List Token)) → o ≡ parse_map (in_front []) o
 front-none None = refl
 front-none (Some p) = refl
 
 -- one more is done
-pub front-more : (done : List Data) (d : Data) (o : Option (Items × List Token))
+front-more : (done : List Data) (d : Data) (o : Option (Items × List Token))
     → parse_map (in_front done) (parse_map (item d) o) ≡ parse_map (in_front (done ++ d ∷ [])) o
 front-more done d None = refl
 front-more done d (Some p) = ap (λ ds. Some (ds, p.1)) (in_front-more done d p.0)
@@ -189,3 +181,65 @@ front-more done d (Some p) = ap (λ ds. Some (ds, p.1)) (in_front-more done d p.
 pub front-all : (vs : List Value) → in_front (map view vs) no_items ≡ items_view vs
 front-all [] = refl
 front-all (v ∷ vs) = ap (item (view v)) (front-all vs)
+
+-- from the first token of a list's items up to another stand these
+abbrev pub ItemsUpTo : ℕ → List Token → List Data → List Token → Type 0
+ItemsUpTo levels all done ts =
+    (length ts ≤ length all) × (n : ℕ) × (length ts ≤ n)
+    × (converted of_items (items (value levels) (length all) all)
+    ≡ parse_map (in_front done) (converted of_items (items (value levels) n ts)))
+
+pub items-none : (levels : ℕ) (all : List Token) → ItemsUpTo levels all [] all
+items-none levels all = (omega arith, length all, omega arith, front-none _)
+
+pub items-more : (levels : ℕ) (all ts rest : List Token) (done : List Data) (d : Data)
+    → ItemsUpTo levels all done ts → Begins levels ts d rest
+    → ItemsUpTo levels all (done ++ d ∷ []) rest
+items-more levels all ts rest done d (less, n, enough, e) next = (
+  omega (arith, less, next.1),
+  n - 1,
+  omega (arith, enough, next.1),
+  e ∙ ap (parse_map (in_front done)) (next_item (value levels) n ts rest d
+      (omega (arith, enough, next.1)) (goes-on levels ts rest d next) next.0)
+      ∙ front-more done d _,
+)
+
+pub items-all : (levels : ℕ) (all ts rest : List Token) (done : List Data)
+    → ItemsUpTo levels all done ts → after_end_array ts ≡ Some rest
+    → BeginsItems levels all (in_front done no_items) rest
+items-all levels all ts rest done (less, n, enough, e) ended = (
+  e ∙ ap (parse_map (in_front done)) (no_item (value levels) n ts rest enough ended),
+  omega (arith, less, after_end_array-shorter ts rest ended),
+)
+
+-- ---- members that are done
+
+-- from the first token of an object's members up to another stand these
+abbrev pub MembersUpTo : ℕ → List Token → Members → List Token → Type 0
+MembersUpTo levels all done ts =
+    (length ts ≤ length all) × (n : ℕ) × (length ts ≤ n)
+    × (converted (λ ms. of_members ms no_members) (members (value levels) (length all) all)
+    ≡ converted (λ ms. of_members ms done) (members (value levels) n ts))
+
+pub members-none : (levels : ℕ) (all : List Token) → MembersUpTo levels all no_members all
+members-none levels all = (omega arith, length all, omega arith, refl)
+
+pub members-more : (levels : ℕ) (all ts at rest : List Token) (done : Members) (k : List ℕ)
+    (d : Data) → MembersUpTo levels all done ts → read_key ts ≡ Some (Some k, at)
+    → Begins levels at d rest → MembersUpTo levels all (put k d done) rest
+members-more levels all ts at rest done k d (less, n, enough, e) key next =
+    let shorter = read_key-shorter ts (Some k) at key in (
+      omega (arith, less, shorter, next.1),
+      n - 1,
+      omega (arith, enough, shorter, next.1),
+      e ∙ next_member (value levels) done n k ts at rest d (omega (arith, enough, shorter)) key
+          next.0,
+    )
+
+pub members-all : (levels : ℕ) (all ts rest : List Token) (done : Members)
+    → MembersUpTo levels all done ts → read_key ts ≡ Some (None, rest)
+    → BeginsMembers levels all done rest
+members-all levels all ts rest done (less, n, enough, e) closed = (
+  e ∙ no_member (value levels) done n ts rest enough closed,
+  omega (arith, less, read_key-shorter ts None rest closed),
+)

@@ -55,6 +55,12 @@ pub from-byte : (t : List ℕ) (i x : ℕ) → get_or t i 32 ≡ x → (x == 32)
 from-byte t i x e other =
     drop_more t i 32 (within t i x e other) ∙ ap (λ y. y ∷ drop (i + 1) t) e
 
+-- the lexemes from a byte on, by those of any text that begins with it
+pub by-byte : (t : List ℕ) (i x : ℕ) {ls : List ℕ → List Lexeme} → get_or t i 32 ≡ x
+    → (x == 32) ≡ false → ((xs : List ℕ) → lex between (x ∷ xs) ≡ ls xs)
+    → lex between (drop i t) ≡ ls (drop (i + 1) t)
+by-byte t i x e other is = ap (lex between) (from-byte t i x e other) ∙ is (drop (i + 1) t)
+
 -- the first byte of the text from a place on
 pub head-at : (t : List ℕ) (i : ℕ) → get_or (drop i t) 0 32 ≡ get_or t i 32
 head-at t i = get_or-drop i t 0 32 ∙ ap (λ k. get_or t k 32) (omega arith)
@@ -206,6 +212,14 @@ unfolding lex
 lex-string xs s rest e passed = rw e (ap (λ ls. token (spec.string s) ∷ ls) passed)
 
 -- ---- commas and colons
+
+-- a comma or a bracket is no colon
+pub no-colon : (t : List ℕ) (i : ℕ)
+    → (get_or t i 32 ≡ 44) ⊎ (get_or t i 32 ≡ 93) ⊎ (get_or t i 32 ≡ 125)
+    → begins_colon (lex between (drop i t)) ≡ false
+no-colon t i (inl e) = ap begins_colon (by-byte t i 44 e refl lex-comma)
+no-colon t i (inr (inl e)) = ap begins_colon (by-byte t i 93 e refl lex-close_bracket)
+no-colon t i (inr (inr e)) = ap begins_colon (by-byte t i 125 e refl lex-close_brace)
 
 pub begins-number : (p : Place) (s : List ℕ) (ls : List Lexeme) → may_begin p ≡ true
     → punctuate p (token (spec.number s) ∷ ls) ≡ spec.number s ∷ punctuate after_value ls

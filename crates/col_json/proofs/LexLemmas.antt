@@ -1,8 +1,9 @@
 -- The lexing of a text that begins with a number without a point and an exponent.
-use Rattle.std.proofs.Common.{◌≡◌, ℕ, suc, ◌+◌, ◌-◌, ◌<◌, List, [], ◌∷◌, length, take, drop}
-use Rattle.std.proofs.Common.{Bool, true, false, cond, ◌==◌, ◌||◌, Some, option_and_then}
-use Rattle.std.proofs.Common.{true≢false, refl, sym, ap, ◌∙◌, arith}
+use Rattle.std.proofs.Common.{◌≡◌, ℕ, suc, ◌+◌, ◌-◌, ◌<◌, ◌≤◌, List, [], ◌∷◌, length, take, drop}
+use Rattle.std.proofs.Common.{get_or, Bool, true, false, cond, ◌==◌, ◌||◌, Some, option_and_then}
+use Rattle.std.proofs.Common.{true≢false, length-drop, refl, sym, ap, ◌∙◌, subst, arith}
 use Rattle.std.proofs.lemmas.Bool.{ne_eqb, eqb-true}
+use Rattle.std.proofs.lemmas.List.{drop-drop}
 use Rattle.std.specs.List.{prefix_len}
 use Rattle.std.specs.Char.{is_ascii_digit}
 use Rattle.json.specs.Token.{number, bad}
@@ -11,6 +12,7 @@ use Rattle.json.specs.Word.{after_whole, after_fraction, after_exponent, after_n
 use Rattle.json.specs.Word.{number_before, word}
 use Rattle.json.specs.Lex.{token, other, class, lex, lex_byte, in_word, between}
 use Rattle.json.proofs.Printed.Numbers.{in_word-ended}
+use Rattle.col_json.proofs.CursorLemmas.{head-at}
 
 -- a byte that passes a test is no byte that fails it
 apart : (f : ℕ → Bool) (x k : ℕ) → f x ≡ true → f k ≡ false → (x == k) ≡ false
@@ -148,3 +150,32 @@ number-lexed (x ∷ xs) some alone ended =
     ∙ ap (λ w. token w ∷ lex in_word xs) is
     ∙ ap (λ ls. token (number (take (length t - length rest) t)) ∷ ls)
     (first.1 ∙ in_word-ended rest ended)
+
+-- the same from a place of a text on, by the places where its digits begin and end
+pub number-from : (t : List ℕ) (at first end : ℕ) → drop first t ≡ after_minus (drop at t)
+    → at ≤ first → end ≡ first + prefix_len is_ascii_digit (drop first t) → first < end
+    → end ≤ length t → (get_or t first 32 ≡ 48 → end ≡ first + 1)
+    → (is_operator (get_or t end 32) || is_space (get_or t end 32)) ≡ true
+    → lex between (drop at t)
+    ≡ token (number (take (end - at) (drop at t))) ∷ lex between (drop end t)
+number-from t at first end minus before counted some enough alone over =
+    let all = drop at t in
+    let u = drop first t in
+    let k = prefix_len is_ascii_digit u in
+    let left : drop k u ≡ drop end t =
+    drop-drop k first t ∙ ap (λ j. drop j t) (omega (arith, counted)) in
+    let ended : ends_word (drop k u) ≡ true =
+    ap ends_word left ∙ ap (λ x. is_operator x || is_space x) (head-at t end) ∙ over in
+    let one : head u ≡ 48 → k ≡ 1 =
+    λ zero_first. omega (arith, counted, alone (sym (head-at t first) ∙ zero_first)) in
+    let lexed = number-lexed all
+    (subst (λ x. 0 < prefix_len is_ascii_digit x) minus (omega (arith, counted, some)))
+    (subst (λ x. head x ≡ 48 → prefix_len is_ascii_digit x ≡ 1) minus one)
+    (subst (λ x. ends_word (drop (prefix_len is_ascii_digit x) x) ≡ true) minus ended) in
+    let here = subst (λ x. lex between all
+    ≡ token (number (take (length all - length (drop (prefix_len is_ascii_digit x) x)) all))
+    ∷ lex between (drop (prefix_len is_ascii_digit x) x)) (sym minus) lexed in
+    let long : length all - length (drop end t) ≡ end - at =
+    omega (arith, length-drop at t, length-drop end t, enough, some, before) in
+    here ∙ ap (λ r. token (number (take (length all - length r) all)) ∷ lex between r) left
+    ∙ ap (λ j. token (number (take j all)) ∷ lex between (drop end t)) long

@@ -4,3 +4,4 @@ pub mod DigitLemmas
 pub mod GrammarLemmas
 pub mod LexLemmas
 pub mod NumberLemmas
+pub mod ValueLemmas

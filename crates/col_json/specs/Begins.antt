@@ -26,7 +26,7 @@ BeginsMembers levels ts ms rest =
 
 -- from one place of an object to another, members are passed that put nothing at two names: to read
 -- on from the first, with the members before it, is to read on from the second, with others that
--- have the same at both names
+-- have the same at both names; so it holds too where no members can be read from either
 abbrev pub Passes : ℕ → List ℕ → List ℕ → List Token → List Token → Type 0
 Passes levels k l ts at =
     (length at ≤ length ts)

@@ -1,10 +1,10 @@
 //! The tokens of a JSON text whose strings have no escapes, one after another.
-ghost use Rattle.std.specs.Prelude.{◌≡◌, ◌∷◌, [], IfSome, IsTrue, drop, true};
-ghost use Rattle.json.specs.Lex.{after_value, between, lex, may_begin, may_close, punctuate};
-ghost use Rattle.json.specs.Lex.{tokens};
+ghost use Rattle.std.specs.Prelude.{◌≡◌, ◌∷◌, [], IfSome, IsTrue, List, drop, true};
+ghost use Rattle.json.specs.Lex.{Lexeme, after_value, between, lex, may_begin, may_close};
+ghost use Rattle.json.specs.Lex.{punctuate, tokens};
 ghost use Rattle.json.specs.Lex as lexing;
 ghost use Rattle.json.specs.Token.{string};
-ghost use Rattle.col_json.specs.Cursor.{place_of, token_of};
+ghost use Rattle.col_json.specs.Cursor.{Gives, token_of};
 
 use crate::lexemes::{byte_at, null_end, number, skip_spaces, string};
 use std::marker::Model;
@@ -79,8 +79,9 @@ impl<'t> Cursor<'t> {
         }
     }
 
-    /// The next token. `None` where the text ends, where it is no JSON, and at a string with an
-    /// escape, at a number with a point or an exponent, at `true` and at `false`.
+    /// The next token. `None` where the text ends, where it is no JSON, at a string with an escape or
+    /// one behind which none of `:`, `,`, `]` and `}` stands, at a number with a point or an
+    /// exponent, at `true` and at `false`.
     #[inline(always)]
     pub fn next(&mut self) -> Option<Token<'t>>
         ensures { IfSome result (λ t. self.old ≡ token_of t ∷ self.new) }
@@ -110,9 +111,7 @@ impl<'t> Cursor<'t> {
 // The token at a place where a value may begin and a bracket may close.
 #[inline(always)]
 fn any_step<'t>(text: &'t [u8], at: usize) -> Option<Step<'t>>
-    ensures { IfSome result (λ step. punctuate lexing.fresh (lex between (drop at text.now))
-        ≡ token_of step.token ∷ punctuate (place_of step.place) (lex between
-        (drop step.at text.now))) }
+    ensures { IfSome result (Gives lexing.fresh (lex between (drop at text.now)) text.now) }
 {
     match byte_at(text, at) {
         b'}' | b']' => close(text, at),
@@ -124,9 +123,7 @@ fn any_step<'t>(text: &'t [u8], at: usize) -> Option<Step<'t>>
 #[inline(always)]
 fn close<'t>(text: &'t [u8], at: usize) -> Option<Step<'t>>
     ensures { IfSome result (λ step. (p : lexing.Place) → may_close p ≡ true
-        → punctuate p (lex between (drop at text.now))
-        ≡ token_of step.token ∷ punctuate (place_of step.place) (lex between
-        (drop step.at text.now))) }
+        → Gives p (lex between (drop at text.now)) text.now step) }
 {
     match byte_at(text, at) {
         b'}' => Some(after(text, at + 1, Token::EndObject)),
@@ -139,9 +136,7 @@ fn close<'t>(text: &'t [u8], at: usize) -> Option<Step<'t>>
 #[inline(always)]
 fn begin<'t>(text: &'t [u8], at: usize) -> Option<Step<'t>>
     ensures { IfSome result (λ step. (p : lexing.Place) → may_begin p ≡ true
-        → punctuate p (lex between (drop at text.now))
-        ≡ token_of step.token ∷ punctuate (place_of step.place) (lex between
-        (drop step.at text.now))) }
+        → Gives p (lex between (drop at text.now)) text.now step) }
 {
     match byte_at(text, at) {
         b'"' => {
@@ -166,13 +161,12 @@ fn begin<'t>(text: &'t [u8], at: usize) -> Option<Step<'t>>
     }
 }
 
-// The token of a string, with what follows it.
+// The token of a string that ends at a place: a key before a colon, else a text.
 #[inline(always)]
 fn string_step<'t>(text: &[u8], found: &'t [u8], end: usize) -> Option<Step<'t>>
     ensures { IfSome result (λ step. (p : lexing.Place) → may_begin p ≡ true
-        → punctuate p (lexing.token (string found.entry.now) ∷ lex between (drop end text.now))
-        ≡ token_of step.token ∷ punctuate (place_of step.place) (lex between
-        (drop step.at text.now))) }
+        → Gives p (lexing.token (string found.entry.now) ∷ lex between (drop end text.now))
+        text.now step) }
 {
     let at = skip_spaces(text, end);
     match byte_at(text, at) {
@@ -181,26 +175,18 @@ fn string_step<'t>(text: &[u8], found: &'t [u8], end: usize) -> Option<Step<'t>>
             at: at + 1,
             place: Place::Fresh,
         }),
-        b',' => Some(Step {
-            token: Token::Text(found),
-            at: at + 1,
-            place: Place::AfterComma,
-        }),
-        b']' | b'}' => Some(Step {
-            token: Token::Text(found),
-            at,
-            place: Place::AfterValue,
-        }),
+        b',' | b']' | b'}' => Some(after(text, at, Token::Text(found))),
         _ => None,
     }
 }
 
-// A token that ends a value, with what follows it.
+// The step of a token that ends a value at a place: the comma behind it is taken with it.
 #[inline(always)]
 fn after<'t>(text: &[u8], end: usize, token: Token<'t>) -> Step<'t>
-    ensures token { result.token ≡ token.entry }
-    ensures rest { punctuate after_value (lex between (drop end text.now))
-        ≡ punctuate (place_of result.place) (lex between (drop result.at text.now)) }
+    ensures { (p : lexing.Place) → (lexemes : List Lexeme)
+        → punctuate p lexemes
+        ≡ token_of token.entry ∷ punctuate after_value (lex between (drop end text.now))
+        → Gives p lexemes text.now result }
 {
     let at = skip_spaces(text, end);
     if byte_at(text, at) == b',' {

@@ -82,7 +82,7 @@ pub fn number(text: &[u8], at: usize) -> Option<(&[u8], usize)>
 #[inline(always)]
 fn minus_end(text: &[u8], at: usize) -> usize
     ensures value { drop result text.now ≡ after_minus (drop at text.now) }
-    ensures bound { at ≤ result }
+    ensures within { at ≤ result }
 {
     if byte_at(text, at) == b'-' {
         at + 1
@@ -95,7 +95,7 @@ fn minus_end(text: &[u8], at: usize) -> usize
 #[inline(always)]
 fn digits_end(text: &[u8], at: usize) -> usize
     ensures value { result ≡ at + prefix_len is_ascii_digit (drop at text.now) }
-    ensures bound { at < result → result ≤ length text.now }
+    ensures within { at < result → result ≤ length text.now }
 {
     let mut i = at;
     'digits: while i < text.len() && text[i].is_ascii_digit() {
@@ -107,8 +107,8 @@ fn digits_end(text: &[u8], at: usize) -> usize
 // Whether there are digits between two places, and no zero in front of others.
 #[inline(always)]
 fn are_whole(text: &[u8], first: usize, end: usize) -> bool
-    ensures some { IsTrue result → first < end }
-    ensures shortest { IsTrue result → slice_index_or text.now first 32 ≡ 48 → end ≡ first + 1 }
+    ensures { IsTrue result → (first < end)
+        × (slice_index_or text.now first 32 ≡ 48 → end ≡ first + 1) }
 {
     first < end && (byte_at(text, first) != b'0' || end == first + 1)
 }

@@ -1,4 +1,7 @@
 //! JSON read a token at a time, by the value that `serde_json` gives a text.
+//!
+//! A call that answers `None` says nothing of what it was lent: then the text is to be read another
+//! way.
 #![tactic(auto)]
 
 mod cursor;

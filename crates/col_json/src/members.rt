@@ -9,9 +9,9 @@ use crate::cursor::{Cursor, Token};
 use crate::values::read_value;
 use std::alloc::Global;
 
-/// Takes the members up to the next of a name, and its key. `None` where one of the name that is to
-/// stay away comes before, where there is no member of the name, and where `read_value` gives none
-/// for a member before it.
+/// Takes the members up to the next of a name, and its key. `None` where there is no such member,
+/// where one of the name that is to stay away comes before it, where `read_value` gives none for
+/// the value of one before it, and where the cursor gives no token.
 pub fn take_key(
     alloc: Global,
     cursor: &mut Cursor<'_>,
@@ -31,7 +31,8 @@ pub fn take_key(
 }
 
 /// Takes the members that are left, and the brace that closes their object. `None` where one of the
-/// two names that are to stay away comes, and where `read_value` gives none for a member.
+/// two names that are to stay away comes, where `read_value` gives none for the value of a member,
+/// and where the cursor gives no token.
 pub fn close_object(
     alloc: Global,
     cursor: &mut Cursor<'_>,
@@ -71,8 +72,8 @@ fn pass_others<'t>(
     }
 }
 
-/// The name of the next member, or nothing at the brace that closes the object.
-pub fn next_key<'t>(cursor: &mut Cursor<'t>) -> Option<Option<&'t [u8]>>
+// The name of the next member, or nothing at the brace that closes the object.
+pub(crate) fn next_key<'t>(cursor: &mut Cursor<'t>) -> Option<Option<&'t [u8]>>
     ensures { IfSome result
         (λ key. read_key cursor.old ≡ Some (option_map (λ k. k.now) key, cursor.new)) }
 {

@@ -4,7 +4,7 @@ ghost use Rattle.json.specs.Token.{begin_array, begin_object, string};
 
 use crate::cursor::{Cursor, Token};
 
-/// Takes the brace that opens an object.
+/// Takes the brace that opens an object. `None` where another token comes, or none.
 pub fn open_object(cursor: &mut Cursor<'_>) -> Option<()>
     ensures { IfSome result (λ _. cursor.old ≡ begin_object ∷ cursor.new) }
 {
@@ -14,7 +14,7 @@ pub fn open_object(cursor: &mut Cursor<'_>) -> Option<()>
     }
 }
 
-/// Takes the bracket that opens a list.
+/// Takes the bracket that opens a list. `None` where another token comes, or none.
 pub fn open_list(cursor: &mut Cursor<'_>) -> Option<()>
     ensures { IfSome result (λ _. cursor.old ≡ begin_array ∷ cursor.new) }
 {
@@ -24,7 +24,7 @@ pub fn open_list(cursor: &mut Cursor<'_>) -> Option<()>
     }
 }
 
-/// Takes a text.
+/// Takes a text. `None` where another token comes, or none, and where the text is no UTF-8.
 pub fn take_text<'t>(cursor: &mut Cursor<'t>) -> Option<&'t str>
     ensures { IfSome result (λ text. cursor.old ≡ string text.now ∷ cursor.new) }
 {

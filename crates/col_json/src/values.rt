@@ -11,8 +11,8 @@ use serde_json::{Map, Number, Value};
 use std::alloc::Global;
 
 /// The value that comes next, within some levels of lists and objects. `None` where there is none,
-/// where the cursor gives no token, where a number is no whole number of 64 bits, and for want of
-/// memory.
+/// where lists and objects nest deeper, where the cursor gives no token, where `read_digits` gives
+/// no number, where a text is no UTF-8, and for want of memory.
 pub fn read_value(alloc: Global, cursor: &mut Cursor<'_>, levels: usize) -> Option<Value>
     ensures { IfSome result (λ v. Begins levels cursor.old (view v) cursor.new) }
 {

@@ -1,21 +1,17 @@
-use Rattle.std.proofs.Common.{◌≡◌, ◌∷◌, ◌++◌, [], None, Some, map, option_map, subst, sym, arith}
-use Rattle.std.proofs.Common.{ap, ◌∙◌}
+use Rattle.std.proofs.Common.{◌≡◌, ◌∷◌, ◌++◌, [], Some, map, option_map, arith, ap, ◌∙◌}
 use Rattle.std.proofs.lemmas.List.{map-append}
 use Rattle.json.specs.Json.{after_end_array}
 use Rattle.col_json.specs.Cursor.{token_of}
-use Rattle.col_json.proofs.BeginsLemmas.{goes-on}
 use Rattle.col_flat.specs.Parts.{native_cell, slot_cell}
 use Rattle.col_document.specs.Document.{whole_read}
 use Rattle.col_document.specs.Reading.{IsReadAs}
-use Rattle.col_document.proofs.TokenLemmas.{AreReadUpTo, read-none, read-more, read-all}
+use Rattle.col_document.proofs.TokenLemmas.{read-none, read-more, read-all}
 use Rattle.col_document.proofs.plain.take_slots.Goals as goal
 
 pub items-init : goal.items-init
 items-init g c levels =
     let none : map slot_cell c.in_ok-slots.slots ≡ [] = grind arith in
-    subst (λ ys. AreReadUpTo levels (whole_read g.T.NativeWhole.whole_type) c.args.cursor.now ys
-    c.args.cursor.now) (sym none)
-    (read-none levels (whole_read g.T.NativeWhole.whole_type) c.args.cursor.now)
+    rw none (read-none levels (whole_read g.T.NativeWhole.whole_type) c.args.cursor.now)
 
 pub items-preserved : goal.items-preserved
 items-preserved g c levels =
@@ -30,12 +26,8 @@ items-preserved g c levels =
     let more : map slot_cell c.push.new.self ≡ map slot_cell l.slots ++ y ∷ [] =
     ap (map slot_cell) pushed
     ∙ map-append slot_cell l.slots (option_map g.T.NativeType.numbers slot ∷ []) in
-    let one = c.in_ok-slot.ensures levels r in
-    let going : after_end_array l.cursor ≡ None =
-    ap after_end_array first ∙ goes-on levels _ r r one.0 one.2 in
-    subst (λ ys. AreReadUpTo levels f c.args.cursor.now ys r) (sym more)
-    (read-more levels f c.args.cursor.now l.cursor r _ y (l.invariant levels) going
-    (subst (λ ts. IsReadAs levels f ts y r) (sym first) one))
+    let one : IsReadAs levels f l.cursor y r = rw first (c.in_ok-slot.ensures levels r) in
+    rw more (read-more levels f c.args.cursor.now l.cursor r _ y (l.invariant levels) one)
 
 pub returns-in-EndArray : goal.returns-in-EndArray
 returns-in-EndArray g c levels =

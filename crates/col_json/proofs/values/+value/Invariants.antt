@@ -1,9 +1,6 @@
-use Rattle.std.proofs.Common.{◌≡◌, ℕ, ◌+◌, ◌*◌, ◌≤◌, length, map}
-use Rattle.json.specs.Json.{items, members, value, parse_map}
-use Rattle.serde_json.specs.Data.{no_members}
-use Rattle.serde_json.specs.Read.{of_items, of_members, converted}
+use Rattle.std.proofs.Common.{◌+◌, ◌*◌, length, map}
 use Rattle.serde_json.specs.View.{members_view, view}
-use Rattle.col_json.proofs.BeginsLemmas.{in_front}
+use Rattle.col_json.proofs.BeginsLemmas.{ItemsUpTo, MembersUpTo}
 use Rattle.col_json.proofs.values.+value.Given as goal
 
 abbrev pub decreases-read_from : goal.decreases-read_from
@@ -17,23 +14,14 @@ decreases-read_members l = 2 * l.levels + 1
 
 abbrev pub invariant-read_items-items : goal.invariant-read_items-items
 invariant-read_items-items l =
-    (n : ℕ) × (length l.cursor ≤ n)
-    × (converted of_items (items (value l.levels) (length l.initial.cursor) l.initial.cursor)
-    ≡ parse_map (in_front (map view l.found.items))
-    (converted of_items (items (value l.levels) n l.cursor)))
-    × (length l.cursor ≤ length l.initial.cursor)
+    ItemsUpTo l.levels l.initial.cursor (map view l.found.items) l.cursor
 
 abbrev pub decreases-read_items-items : goal.decreases-read_items-items
 decreases-read_items-items l = length l.cursor
 
 abbrev pub invariant-read_members-members : goal.invariant-read_members-members
 invariant-read_members-members l =
-    (n : ℕ) × (length l.cursor ≤ n)
-    × (converted (λ ms. of_members ms no_members)
-    (members (value l.levels) (length l.initial.cursor) l.initial.cursor)
-    ≡ converted (λ ms. of_members ms (members_view l.found.entries))
-    (members (value l.levels) n l.cursor))
-    × (length l.cursor ≤ length l.initial.cursor)
+    MembersUpTo l.levels l.initial.cursor (members_view l.found.entries) l.cursor
 
 abbrev pub decreases-read_members-members : goal.decreases-read_members-members
 decreases-read_members-members l = length l.cursor
