@@ -24,9 +24,10 @@ BeginsMembers levels ts ms rest =
     ≡ Some (ms, rest))
     × (length rest < length ts)
 
--- from one place of an object to another, members are passed that put nothing at two names: to read
--- on from the first, with the members before it, is to read on from the second, with others that
--- have the same at both names; so it holds too where no members can be read from either
+-- from one place of an object to another, members are passed that change nothing at two names in
+-- the object that is read: to read on from the first, with the members before it, is to read on from
+-- the second, with others that have the same at both names; a member that a later one of its name
+-- takes the place of changes nothing, and where no members can be read from either, it holds too
 abbrev pub Passes : ℕ → List ℕ → List ℕ → List Token → List Token → Type 0
 Passes levels k l ts at =
     (length at ≤ length ts)

@@ -79,9 +79,10 @@ impl<'t> Cursor<'t> {
         }
     }
 
-    /// The next token. `None` where the text ends, where it is no JSON, at a string with an escape or
-    /// one behind which none of `:`, `,`, `]` and `}` stands, at a number with a point or an
-    /// exponent, at `true` and at `false`.
+    /// The next token. `None` where the text ends, where a value, a comma or a colon does not stand
+    /// where it is to, at a string with an escape or one behind which none of `:`, `,`, `]` and `}`
+    /// stands, at a number with a point or an exponent, at `true` and at `false`. Whether brackets
+    /// and braces match, and whether members have keys, is the caller's to ask.
     #[inline(always)]
     pub fn next(&mut self) -> Option<Token<'t>>
         ensures { IfSome result (λ t. self.old ≡ token_of t ∷ self.new) }
@@ -175,7 +176,7 @@ fn string_step<'t>(text: &[u8], found: &'t [u8], end: usize) -> Option<Step<'t>>
             at: at + 1,
             place: Place::Fresh,
         }),
-        b',' | b']' | b'}' => Some(after(text, at, Token::Text(found))),
+        b',' | b']' | b'}' => Some(value_step(text, at, Token::Text(found))),
         _ => None,
     }
 }
@@ -188,7 +189,17 @@ fn after<'t>(text: &[u8], end: usize, token: Token<'t>) -> Step<'t>
         ≡ token_of token.entry ∷ punctuate after_value (lex between (drop end text.now))
         → Gives p lexemes text.now result }
 {
-    let at = skip_spaces(text, end);
+    value_step(text, skip_spaces(text, end), token)
+}
+
+// The same, where no space stands at the place.
+#[inline(always)]
+fn value_step<'t>(text: &[u8], at: usize, token: Token<'t>) -> Step<'t>
+    ensures { (p : lexing.Place) → (lexemes : List Lexeme)
+        → punctuate p lexemes
+        ≡ token_of token.entry ∷ punctuate after_value (lex between (drop at text.now))
+        → Gives p lexemes text.now result }
+{
     if byte_at(text, at) == b',' {
         Step {
             token,

@@ -15,6 +15,6 @@ pub returns-in-44 : goal.returns-in-44
 returns-in-44 c p may =
     let ended = own.no-colon c.args.text.now c.skip_spaces-at.result (subst (λ x. (x ≡ 44) ⊎ (x
     ≡ 93) ⊎ (x ≡ 125)) c.byte_at.ensures c.in-44.is) in
-    c.after.ensures p _
+    c.value_step.ensures p _
     (ap (λ ls. punctuate p (token (string c.args.found.now) ∷ ls)) c.skip_spaces-at.ensures
     ∙ own.begins-string p c.args.found.now _ may ended)
