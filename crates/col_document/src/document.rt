@@ -109,10 +109,12 @@ impl<T: Drop> From<AllocFailed<T>> for ReadError {
     }
 }
 
-// The document of a text of the plain form: it has its columns before its trees, each of them once,
-// and so have the columns their types before their values. `None` where the text is not of that
-// form, where it holds no document, and for want of memory.
-fn read_plain(alloc: Global, text: &str) -> Option<Document>
+/// The document of a text of the plain form: it has its columns before its trees, each of them once,
+/// and so have the columns their types before their values.
+///
+/// `None` where the text is not of that form, where it has anywhere what a call of `col_json` gives
+/// up at, where it holds no document, and for want of memory. `read_document` reads those too.
+pub fn read_plain(alloc: Global, text: &str) -> Option<Document>
     ensures { IfSome result
         (λ d. option_and_then document_read (read text.now) ≡ Some (document_view d)) }
 {

@@ -10,5 +10,5 @@ mod spelled;
 mod texts;
 mod trees;
 
-pub use document::{Document, ReadError, read_document};
+pub use document::{Document, ReadError, read_document, read_plain};
 pub use texts::read_count;

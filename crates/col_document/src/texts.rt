@@ -61,8 +61,8 @@ pub fn read_type_name(text: &str) -> Option<DataType>
     }
 }
 
-/// The count that digits name: a number below 2^32 without a zero in front. `None` where the text has
-/// anything but digits, a zero in front of others, or a greater number.
+/// The count that digits name: a number below 2^32 without a zero in front. `None` where the text
+/// has anything but digits, a zero in front of others, or a greater number.
 pub fn read_count(digits: &str) -> Option<u32>
     ensures { result ≡ count_named digits.now }
 {
