@@ -1,6 +1,6 @@
 -- The rows of a made table, and that no tree over it refuses one.
 use Rattle.std.proofs.Common.{◌≡◌, ℕ, ◌+◌, ◌-◌, ◌/◌, ◌^◌, ◌<◌, Bool, true, false, List, []}
-use Rattle.std.proofs.Common.{◌∷◌, ◌++◌, map, Option, Some, None, Result, Ok, Err, ℤ, pos, negsuc}
+use Rattle.std.proofs.Common.{◌∷◌, ◌++◌, map, Option, Some, None, Result, Ok, Err, ℤ, pos}
 use Rattle.std.proofs.Common.{refl, sym, ◌∙◌, inl, inr, arith, zero-add, lit<, rules}
 use Rattle.std.specs.Prelude.{is_err, IsOk, slice_index_or, int_div, option_map}
 use Rattle.std.specs.Int.{Width, w64}
