@@ -1,12 +1,12 @@
 -- How a run ends whose input is told, where no fault comes.
 use Rattle.std.proofs.Common.{◌≡◌, ℕ, ◌+◌, ◌≤◌, Bool, true, false, List, [], length, Option, Some}
-use Rattle.std.proofs.Common.{None, cond, refl, sym, ◌∙◌, ap, subst, inl, inr, ◌⊎◌, ◌↔◌, arith}
+use Rattle.std.proofs.Common.{None, cond, refl, sym, subst, inl, inr, ◌⊎◌, ◌↔◌, arith}
 use Rattle.std.proofs.Common.{length-append}
 use Rattle.std.specs.Prelude.{nat_lt, IfSome}
 use Rattle.std.proofs.lemmas.Bool.Decides.{nat_tests}
-use Rattle.col_run.specs.Command.{page_of_command, reads_source}
+use Rattle.col_run.specs.Command.{reads_source}
 use Rattle.col_run.specs.Laws.{EndsByInput, input_of, status_of}
-use Rattle.col_run.specs.Run.{HasInput, IsDelivered, ReadsWhere, TakesPart, TakesWithin, WritesPage}
+use Rattle.col_run.specs.Run.{HasInput, ReadsWhere, TakesPart, TakesWithin, WritesPage}
 use Rattle.col_run.specs.Run.{max_bytes}
 use Rattle.col_run.specs.Streams.{TakesFront}
 use Rattle.col_run.specs.declared.words.Command.{Command}
