@@ -1,4 +1,4 @@
-//! Whole numbers in decimal digits, at the ends of what is read.
+//! Whole numbers in decimal digits, at the ends of what is read: by hand, from the ends of 64 bits.
 use col_json::read_digits;
 
 #[test]

@@ -1,4 +1,4 @@
-//! Objects of two members among others.
+//! Objects of two members among others: by hand, from the doc comments of the calls.
 use col_json::{Cursor, close_object, open_object, read_value, take_key};
 use std::alloc::Global;
 

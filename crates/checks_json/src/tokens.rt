@@ -1,5 +1,5 @@
-//! The tokens of texts, up to the first that the cursor gives up at.
-use col_json::{Cursor, Token, open_list, open_object, take_text};
+//! The tokens of texts, up to the first that the cursor gives up at: by hand, from RFC 8259.
+use col_json::{Cursor, Token, open_list, open_object, read_value, take_text};
 use col_types::Error;
 use std::alloc::Global;
 
@@ -113,4 +113,15 @@ fn a_token_is_taken_where_it_is_wanted(rt: HostRuntime) {
         !is_text(r#""Int64":"#, "Int64") && !is_text("64", "64"),
         "a key and a number"
     );
+}
+
+#[test]
+fn texts_are_utf_8(rt: HostRuntime) {
+    // two bytes that begin no character, and a character that is cut off
+    let texts: [&[u8]; 3] = [b"\"\xff\"]", b"\"a\x80\"]", b"\"\xe2\x82\"]"];
+    for text in texts {
+        let is_taken = take_text(&mut Cursor::new(text)).is_some();
+        let is_read = read_value(rt.alloc(), &mut Cursor::new(text), 1).is_some();
+        assert!(rt; !is_taken && !is_read, "{text:?}");
+    }
 }
