@@ -176,7 +176,16 @@ fn string_step<'t>(text: &[u8], found: &'t [u8], end: usize) -> Option<Step<'t>>
             at: at + 1,
             place: Place::Fresh,
         }),
-        b',' | b']' | b'}' => Some(value_step(text, at, Token::Text(found))),
+        b',' => Some(Step {
+            token: Token::Text(found),
+            at: at + 1,
+            place: Place::AfterComma,
+        }),
+        b']' | b'}' => Some(Step {
+            token: Token::Text(found),
+            at,
+            place: Place::AfterValue,
+        }),
         _ => None,
     }
 }
@@ -189,17 +198,7 @@ fn after<'t>(text: &[u8], end: usize, token: Token<'t>) -> Step<'t>
         ≡ token_of token.entry ∷ punctuate after_value (lex between (drop end text.now))
         → Gives p lexemes text.now result }
 {
-    value_step(text, skip_spaces(text, end), token)
-}
-
-// The same, where no space stands at the place.
-#[inline(always)]
-fn value_step<'t>(text: &[u8], at: usize, token: Token<'t>) -> Step<'t>
-    ensures { (p : lexing.Place) → (lexemes : List Lexeme)
-        → punctuate p lexemes
-        ≡ token_of token.entry ∷ punctuate after_value (lex between (drop at text.now))
-        → Gives p lexemes text.now result }
-{
+    let at = skip_spaces(text, end);
     if byte_at(text, at) == b',' {
         Step {
             token,
